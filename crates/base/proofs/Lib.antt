@@ -1,0 +1,9 @@
+pub mod Bools
+pub mod First
+pub mod Fit
+pub mod Grow
+pub mod Map
+pub mod Order
+pub mod Overwrite
+pub mod Parts
+pub mod Scan

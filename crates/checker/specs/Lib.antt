@@ -1,0 +1,4 @@
+pub mod Check
+pub mod Condition
+pub mod Page
+pub mod Text

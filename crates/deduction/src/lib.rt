@@ -1,0 +1,1 @@
+// Deducibility from the knowledge, over all terms.

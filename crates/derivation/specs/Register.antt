@@ -1,0 +1,24 @@
+-- The registers' terms: document 01, 'The register program'.
+use mathlib.Core.Bool.{Bool, cond}
+use mathlib.Core.List.{List}
+use mathlib.Core.Option.{Option}
+use Prim.Native.Nat.{ℕ, _+_, _-_}
+use lib.Dec.{eqb, ltb}
+use Rattle.base.specs.First.{first, any}
+use Rattle.submission.specs.Record.{entries, entryAt, guess, conclusionAt}
+
+-- "Registers 0 to K-1 hold the knowledge in order, register K the guess, K+1+i the result of step i": register r's term number
+unfoldable pub registerTerm : List ℕ → ℕ → ℕ
+registerTerm s r = cond (ltb r (entries s)) (entryAt s r) (cond (eqb r (entries s)) (guess s) (conclusionAt s (r - (entries s + 1))))
+
+-- how many registers are written before step i
+abbrev pub written : List ℕ → ℕ → ℕ
+written s i = entries s + 1 + i
+
+-- the lowest of the first n registers that holds the term t
+abbrev pub lowestOf : List ℕ → ℕ → ℕ → Option ℕ
+lowestOf s n t = first (λ r. eqb (registerTerm s r) t) n
+
+-- "A premise is known if it is in the knowledge, is the guess, or was concluded by an earlier step": t is known before step i
+abbrev pub isKnown : List ℕ → ℕ → ℕ → Bool
+isKnown s i t = any (λ r. eqb (registerTerm s r) t) (written s i)

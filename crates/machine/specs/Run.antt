@@ -1,0 +1,53 @@
+-- The machine: document 01, 'Machine'. "Run takes a submission, a 16-bit name and a program."
+use mathlib.Core.Bool.{Bool, true, false, cond}
+use mathlib.Core.List.{List, [], _∷_, _++_}
+use mathlib.Core.Option.{Option, none, some}
+use Prim.Native.Nat.{ℕ}
+use lib.ListN.{getD}
+use Rattle.base.specs.Grow.{grow, listed}
+use Rattle.term.specs.Term.{Kind, plain, asymmetric, Term, atom, term?, test}
+use Rattle.term.specs.Table.{void}
+use Rattle.term.specs.Reduce.{op, match?}
+use Rattle.term.specs.Rule.{headOf}
+use Rattle.submission.specs.Answer.{Answer, done, andThen, answered}
+use Rattle.submission.specs.Contents.{byte}
+use Rattle.submission.specs.Record.{entries, entryAt, guess, kindAt, Shape, atomic, compound, shapeOf, term}
+use Rattle.submission.specs.Check.{checks1to5}
+use Rattle.machine.specs.Program.{Instruction, Test, Relation, equal, inverse, relationOf, instructionAt, testOf, operand, check13}
+
+abbrev pub atomKind : Option Shape → Kind
+atomKind none = plain
+atomKind (some (atomic κ)) = κ
+atomKind (some (compound h)) = plain
+
+-- "the atom of the guess's kind with that name"
+unfoldable pub guessed : List ℕ → ℕ → Term
+guessed s name = atom (atomKind (shapeOf (kindAt s (guess s)))) name
+
+-- the registers at the start: the knowledge in order, then the guess
+unfoldable pub initial : List ℕ → ℕ → List Term
+initial s name = listed (λ i. term s (entryAt s i)) (entries s) ++ guessed s name ∷ []
+
+-- one instruction over the registers' values
+unfoldable pub executed : List Term → Instruction → Term
+executed vs i = op (headOf (i .rule)) (getD vs (i .first) void) (getD vs (operand i) void)
+
+-- the registers after the first n instructions
+unfoldable pub registers : List ℕ → ℕ → List ℕ → ℕ → List Term
+registers s name P n = grow (initial s name) (λ vs i. executed vs (instructionAt P i)) n
+
+-- "`=` signals 1 for equal terms, `i` when the first is a key and the second its inverse, else 0"
+abbrev pub holds : Option Relation → Term → Term → Bool
+holds none a b = false
+holds (some equal) a b = test (term? b a)
+holds (some inverse) a b = test (match? asymmetric a b)
+
+unfoldable pub signals : List Term → Test → Bool
+signals vs t = holds (relationOf (t .letter)) (getD vs (t .first) void) (getD vs (t .second) void)
+
+unfoldable pub signal : List ℕ → ℕ → List ℕ → ℕ
+signal s name P = cond (signals (registers s name P (byte P 0)) (testOf P)) 1 0
+
+-- "run makes 1 to 5, then 13"
+unfoldable pub runAnswer : List ℕ → ℕ → List ℕ → Answer
+runAnswer s name P = answered (andThen (checks1to5 s) (check13 s P)) (done (signal s name P))

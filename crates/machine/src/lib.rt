@@ -1,0 +1,1 @@
+// The machine that runs a register program over terms.

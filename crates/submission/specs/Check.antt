@@ -1,0 +1,50 @@
+-- Checks 3 to 5, and the first five in order: document 01, 'Verdicts'.
+use mathlib.Core.Bool.{Bool, true, false, _&&_, _||_, not}
+use mathlib.Core.List.{List}
+use mathlib.Core.Option.{Option, none, some}
+use Prim.Native.Nat.{ℕ}
+use lib.Dec.{eqb, ltb}
+use Rattle.base.specs.First.{first, any}
+use Rattle.submission.specs.Answer.{Check, failsAt, failsIf, andThen}
+use Rattle.submission.specs.Contents.{check1, check2}
+use Rattle.submission.specs.Record.{terms, entries, steps, kindAt, xAt, yAt, entryAt, guess, verifying, wayAt, Shape, atomic, compound, shapeOf, takes, isAtomic}
+use Rattle.submission.specs.Claim.{wayOf, companionFits}
+
+-- "In 4 to 6, x and y number earlier terms", and y is of a kind that the head takes
+abbrev pub shapeFits : List ℕ → ℕ → Option Shape → Bool
+shapeFits s i none = false
+shapeFits s i (some (atomic κ)) = true
+shapeFits s i (some (compound h)) = ltb (xAt s i) i && (ltb (yAt s i) i && takes h (kindAt s (yAt s i)))
+
+-- "No two records are equal, so equal terms have equal numbers."
+abbrev pub sameRecord : List ℕ → ℕ → ℕ → Bool
+sameRecord s i j = eqb (kindAt s j) (kindAt s i) && (eqb (xAt s j) (xAt s i) && eqb (yAt s j) (yAt s i))
+
+-- 3 term: "first record that is bad or equals an earlier one"
+unfoldable pub badTerm : List ℕ → ℕ → Bool
+badTerm s i = not (shapeFits s i (shapeOf (kindAt s i))) || any (sameRecord s i) i
+
+abbrev pub check3 : List ℕ → Check
+check3 s = failsAt 3 (first (badTerm s) (terms s))
+
+-- 4 knowledge: "entry not below T, or equal to an earlier one"
+unfoldable pub badKnowledge : List ℕ → ℕ → Bool
+badKnowledge s i = not (ltb (entryAt s i) (terms s)) || any (λ j. eqb (entryAt s j) (entryAt s i)) i
+
+abbrev pub check4 : List ℕ → Check
+check4 s = failsAt 4 (first (badKnowledge s) (entries s))
+
+-- 5 claim: "guess not below T or no atom; step or companion out of range ..; way"
+unfoldable pub goodClaim : List ℕ → Bool
+goodClaim s =
+    ltb (guess s) (terms s) && (isAtomic (shapeOf (kindAt s (guess s))) && (ltb (verifying s) (steps s) && companionFits s (wayOf (wayAt s))))
+
+abbrev pub check5 : List ℕ → Check
+check5 s = failsIf (not (goodClaim s)) 5 0
+
+-- "Deducible makes checks 1 to 4 .. run makes 1 to 5"
+unfoldable pub checks1to4 : List ℕ → Check
+checks1to4 s = andThen (check1 s) (andThen (check2 s) (andThen (check3 s) (check4 s)))
+
+unfoldable pub checks1to5 : List ℕ → Check
+checks1to5 s = andThen (checks1to4 s) (check5 s)

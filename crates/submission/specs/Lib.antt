@@ -1,0 +1,5 @@
+pub mod Answer
+pub mod Check
+pub mod Claim
+pub mod Contents
+pub mod Record

@@ -1,0 +1,5 @@
+pub mod Reduce
+pub mod Rule
+pub mod Step
+pub mod Table
+pub mod Term

@@ -1,0 +1,25 @@
+-- A table of records: each is an atom, or a head over the numbers of two earlier records.
+-- The submission's terms are such a table, and so are the terms that the machine holds.
+use mathlib.Core.Path.{_≡_}
+use mathlib.Core.List.{List, []}
+use Prim.Native.Nat.{ℕ, _<_}
+use lib.ListN.{getD}
+use Rattle.base.specs.Grow.{grow}
+use Rattle.term.specs.Term.{Kind, plain, Head, Term, atom, node}
+
+pub data Rec : Type 0 where
+  leaf : Kind → ℕ → Rec
+  branch : Head → ℕ → ℕ → Rec
+
+-- the term of a record, over the terms of the earlier ones
+abbrev pub message : (ℕ → Term) → Rec → Term
+message T (leaf κ n) = atom κ n
+message T (branch h x y) = node h (T x) (T y)
+
+-- what a list has past its end
+abbrev pub void : Term
+void = atom plain 0
+
+-- the terms of the first n records, each read over those before it
+unfoldable pub decoded : (ℕ → Rec) → ℕ → List Term
+decoded r n = grow [] (λ ts i. message (λ m. getD ts m void) (r i)) n
