@@ -1,7 +1,7 @@
 -- The table of contents and the counts: document 01, 'The submission'; checks 1 and 2.
 use mathlib.Core.Bool.{Bool, _||_, not}
 use mathlib.Core.List.{List, [], _∷_}
-use Prim.Native.Nat.{ℕ, zero, suc, _+_, _*_, _<_}
+use Prim.Native.Nat.{ℕ, zero, suc, _+_, _*_, _≤_, _<_}
 use lib.Dec.{eqb, ltb}
 use lib.ListN.{length, getD}
 use Rattle.base.specs.First.{first, any}
@@ -37,11 +37,14 @@ start s zero = 16
 start s (suc i) = start s i + width i * count s i
 
 -- 1 contents: "under 16 bytes; a letter, start or the length wrong"
-abbrev pub badEntry : List ℕ → ℕ → Bool
-badEntry s i = not (eqb (byte s (4 * i)) (letter i)) || not (eqb (word s (4 * i + 2)) (start s i))
+abbrev pub wrongLetter : List ℕ → ℕ → Bool
+wrongLetter s i = not (eqb (byte s (4 * i)) (letter i))
+
+abbrev pub wrongStart : List ℕ → ℕ → Bool
+wrongStart s i = not (eqb (word s (4 * i + 2)) (start s i))
 
 unfoldable pub badContents : List ℕ → Bool
-badContents s = ltb (length s) 16 || (any (badEntry s) 4 || not (eqb (length s) (start s 4)))
+badContents s = ltb (length s) 16 || (any (wrongLetter s) 4 || (any (wrongStart s) 4 || not (eqb (length s) (start s 4))))
 
 abbrev pub check1 : List ℕ → Check
 check1 s = failsIf (badContents s) 1 0
@@ -59,3 +62,9 @@ badCount s i = ltb (count s i) (least i) || ltb (most i) (count s i)
 
 abbrev pub check2 : List ℕ → Check
 check2 s = failsAt 2 (first (badCount s) 4)
+
+-- what the limits say of the counts that programs and registers are made of
+pub record Limited (s : List ℕ) : Type 0 where
+  pub terms : count s 0 ≤ 250
+  pub entries : count s 1 ≤ 64
+  pub steps : count s 2 ≤ 128

@@ -3,3 +3,4 @@ pub mod Check
 pub mod Claim
 pub mod Contents
 pub mod Record
+pub mod Stage
