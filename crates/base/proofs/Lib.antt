@@ -6,4 +6,5 @@ pub mod Map
 pub mod Order
 pub mod Overwrite
 pub mod Parts
+pub mod Says
 pub mod Scan

@@ -1,1 +1,8 @@
+pub mod Acceptance
+pub mod AcceptanceConditions
 pub mod Examples
+pub mod Program
+pub mod Promise
+pub mod PromiseExamples
+pub mod Signal
+pub mod Refusal

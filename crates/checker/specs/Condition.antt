@@ -9,7 +9,7 @@ use Rattle.term.specs.Term.{Head, Term, isKey, inverse}
 use Rattle.term.specs.Rule.{headOf}
 use Rattle.term.specs.Step.{Deducible, Undoes}
 use Rattle.submission.specs.Answer.{passes}
-use Rattle.submission.specs.Record.{entries, steps, entryAt, ruleAt, pAt, conclusionAt, guess, verifying, wayAt, companion, term}
+use Rattle.submission.specs.Record.{entries, steps, entryAt, ruleAt, pAt, conclusionAt, guess, verifying, wayAt, companion, term, InKnowledge}
 use Rattle.submission.specs.Claim.{Way, another-step, at-start, inverse-key, wayOf}
 use Rattle.submission.specs.Check.{checks1to5}
 use Rattle.derivation.specs.Step.{secondAt, badStep}
@@ -31,10 +31,6 @@ second s i = term s (secondAt s i)
 
 abbrev pub concluded : List ℕ → ℕ → Term
 concluded s i = term s (conclusionAt s i)
-
--- t is in the knowledge
-abbrev pub InKnowledge : List ℕ → Term → Type 0
-InKnowledge s t = (r : ℕ) × (r < entries s) × (t ≡ term s (entryAt s r))
 
 -- "A premise is known if it is in the knowledge, is the guess, or was concluded by an earlier step": t is known before step i
 abbrev pub Known : List ℕ → ℕ → Term → Type 0

@@ -2,3 +2,4 @@ pub mod Check
 pub mod Condition
 pub mod Page
 pub mod Text
+pub mod Wrong

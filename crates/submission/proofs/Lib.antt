@@ -1,2 +1,5 @@
+pub mod Answer
 pub mod Examples
 pub mod Inverse
+pub mod Listed
+pub mod Shape

@@ -1,8 +1,9 @@
 -- The records and their meaning: document 01, 'The submission'. "Records count from 0."
+use mathlib.Core.Path.{_≡_}
 use mathlib.Core.Bool.{Bool, true, false, _&&_, _||_, cond}
 use mathlib.Core.List.{List}
 use mathlib.Core.Option.{Option, none, some}
-use Prim.Native.Nat.{ℕ, _+_, _*_}
+use Prim.Native.Nat.{ℕ, _+_, _*_, _<_}
 use lib.Dec.{eqb}
 use lib.ListN.{getD}
 use Rattle.term.specs.Term.{Kind, plain, public, private, symmetric, asymmetric, Head, pair, part, encrypt, decrypt, Term}
@@ -104,6 +105,10 @@ recordAt s i = recordOf (shapeOf (kindAt s i)) (nameAt s i) (xAt s i) (yAt s i)
 -- the term of a term number, as a tree
 unfoldable pub term : List ℕ → ℕ → Term
 term s n = getD (decoded (recordAt s) (terms s)) n void
+
+-- a message in the knowledge
+abbrev pub InKnowledge : List ℕ → Term → Type 0
+InKnowledge s t = (r : ℕ) × (r < entries s) × (t ≡ term s (entryAt s r))
 
 -- "Keys of kinds 2 and 3 with one name are each other's inverse", of term numbers
 abbrev pub inverseKinds : ℕ → ℕ → Bool

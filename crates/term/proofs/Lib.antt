@@ -1,0 +1,7 @@
+pub mod Built
+pub mod Guess
+pub mod Marks
+pub mod Reach
+pub mod Reduce
+pub mod Rule
+pub mod Table

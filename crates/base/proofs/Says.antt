@@ -1,0 +1,60 @@
+-- What a test says: it comes out true exactly when a proposition holds. Laws for the joined tests, and for a test at some number below n.
+use mathlib.Core.Path.{_≡_, refl, sym, _∙_}
+use mathlib.Core.Logic.{_↔_, _⊎_, inl, inr, ⊎-elim}
+use mathlib.Core.Bool.{Bool, true, false, _||_, _&&_, not, true≢false, false≢true}
+use mathlib.Core.Option.{Option, none, some}
+use Prim.Native.Nat.{ℕ, _<_}
+use lib.Dec.{eqb, ltb}
+use native.Mathlib.Omega.{arith}
+use borrow.Author.Tests.{ltb-true, eqb-true, lt-ltb, eq-eqb}
+use Rattle.base.specs.First.{first, any, isSome}
+use Rattle.base.proofs.First.{first-none, first-some, passed-all}
+
+abbrev pub Says : Bool → Type 0 → Type 0
+Says b P = (b ≡ true) ↔ P
+
+pub says-true : (b : Bool) → Says b (b ≡ true)
+says-true b = (λ e. e, λ e. e)
+
+pub says-eqb : (m n : ℕ) → Says (eqb m n) (m ≡ n)
+says-eqb m n = (eqb-true m n, eq-eqb m n)
+
+pub says-ltb : (m n : ℕ) → Says (ltb m n) (m < n)
+says-ltb m n = (ltb-true m n, lt-ltb m n)
+
+pub says-and : {P Q : Type 0} (a b : Bool) → Says a P → Says b Q → Says (a && b) (P × Q)
+says-and true b p q = (λ e. (p .0 refl, q .0 e), λ u. q .1 (u .1))
+says-and false b p q = (λ e. absurd (false≢true e), λ u. p .1 (u .0))
+
+pub says-or : {P Q : Type 0} (a b : Bool) → Says a P → Says b Q → Says (a || b) (P ⊎ Q)
+says-or true b p q = (λ e. inl (p .0 refl), λ u. refl)
+says-or false b p q = (λ e. inr (q .0 e), ⊎-elim (λ x. absurd (false≢true (p .1 x))) (q .1))
+
+pub says-not : {P : Type 0} (a : Bool) → Says a P → Says (not a) (P → ⊥)
+says-not true p = (λ e. absurd (false≢true e), λ f. absurd (f (p .0 refl)))
+says-not false p = (λ e x. false≢true (p .1 x), λ f. refl)
+
+-- what the test says that came out false
+pub denies : {P : Type 0} (a : Bool) → Says a P → (a ≡ false) ↔ (P → ⊥)
+denies true p = (λ e. absurd (true≢false e), λ f. absurd (f (p .0 refl)))
+denies false p = (λ e x. false≢true (p .1 x), λ f. refl)
+
+pub not-not-false : (a : Bool) → (not a ≡ false) ↔ (a ≡ true)
+not-not-false true = (λ e. refl, λ e. refl)
+not-not-false false = (λ e. absurd (true≢false e), λ e. absurd (false≢true e))
+
+pub or-false : (a b : Bool) → (a || b ≡ false) ↔ ((a ≡ false) × (b ≡ false))
+or-false true b = (λ e. absurd (true≢false e), λ u. u .0)
+or-false false b = (λ e. (refl, e), λ u. u .1)
+
+-- no place fails, and some place does
+pub none-fails : (p : ℕ → Bool) (n : ℕ) → (first p n ≡ none) ↔ ((k : ℕ) → k < n → p k ≡ false)
+none-fails p n = (first-none p n, λ f. passed-all (record { within = omega arith; failed = f }) (omega arith))
+
+pub says-any : {P : ℕ → Type 0} (p : ℕ → Bool) (n : ℕ) → ((k : ℕ) → k < n → Says (p k) (P k)) → Says (any p n) ((k : ℕ) × (k < n) × P k)
+unfolding any
+says-any {P} p n h = go (first p n) refl
+  where
+    go : (o : Option ℕ) → first p n ≡ o → Says (isSome o) ((k : ℕ) × (k < n) × P k)
+    go none e = (λ i. absurd (false≢true i), λ (k, l, x). absurd (true≢false (sym (h k l .1 x) ∙ first-none p n e k l)))
+    go (some i) e = let r = first-some p n i e in (λ _. (i, r .0, h i (r .0) .0 (r .1)), λ _. refl)

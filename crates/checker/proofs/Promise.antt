@@ -1,0 +1,56 @@
+-- Demand 3: an acceptance's page holds the submission's program, with which the right guess signals 1 and every wrong guess 0;
+-- and every well-formed submission that meets the five conditions, with page enough, is accepted.
+use mathlib.Core.Path.{_≡_, refl, ap, sym, _∙_}
+use mathlib.Core.List.{List, _++_}
+use Prim.Native.Nat.{ℕ, _≤_}
+use lib.ListN.{length, take, drop}
+use lib.Seq.{take-at, drop-at}
+use Rattle.submission.specs.Answer.{done}
+use Rattle.submission.specs.Contents.{Bytes}
+use Rattle.submission.specs.Record.{steps, guess, nameAt}
+use Rattle.machine.specs.Program.{bytesOf, programLength}
+use Rattle.machine.specs.Run.{signal, runAnswer}
+use Rattle.machine.proofs.Program.{program-length}
+use Rattle.checker.specs.Check.{checkAnswer}
+use Rattle.checker.specs.Condition.{WellFormed, FiveConditions}
+use Rattle.checker.specs.Page.{program, pageAfter}
+use Rattle.checker.specs.Wrong.{WrongGuess}
+use Rattle.checker.proofs.Acceptance.{accepted-iff}
+use Rattle.checker.proofs.Program.{program-steps}
+use Rattle.checker.proofs.Signal.{program-good, right-signal, wrong-signal}
+
+-- the page of an acceptance
+page-accepted : (s page : List ℕ) (n : ℕ) → checkAnswer s (length page) ≡ done n → pageAfter s page ≡ bytesOf (program s) ++ drop (programLength n) page
+unfolding pageAfter
+page-accepted s page n e = rw e
+
+-- run takes the program
+run-program : (s : List ℕ) → Bytes s → WellFormed s → FiveConditions s → (name : ℕ) → runAnswer s name (bytesOf (program s)) ≡ done (signal s name (bytesOf (program s)))
+unfolding runAnswer
+run-program s b w c name = rw (w .read, program-good s b w c)
+
+-- what an acceptance that carries n promises of the page after checking
+pub record KeptPromise (s page : List ℕ) (n : ℕ) : Type 0 where
+  -- "In demand 3 the program is what checking wrote on the page: three bytes for each step in the count that the acceptance carries, and four more."
+  pub program : take (programLength n) (pageAfter s page) ≡ bytesOf (program s)
+  pub rest : drop (programLength n) (pageAfter s page) ≡ drop (programLength n) page
+  pub right : runAnswer s (nameAt s (guess s)) (take (programLength n) (pageAfter s page)) ≡ done 1
+  pub wrong : (name : ℕ) → WrongGuess s name → runAnswer s name (take (programLength n) (pageAfter s page)) ≡ done 0
+
+-- Every acceptance keeps the promise.
+pub demand-3 : (s page : List ℕ) → Bytes s → (n : ℕ) → checkAnswer s (length page) ≡ done n → KeptPromise s page n
+demand-3 s page b n e =
+    let (f, w, c, l) = accepted-iff s b (length page) n .0 e in
+    let g : length (bytesOf (program s)) ≡ programLength n = program-length (program s) ∙ ap programLength (program-steps s ∙ sym f) in
+    let p = page-accepted s page n e in
+    let t : take (programLength n) (pageAfter s page) ≡ bytesOf (program s) = ap (take (programLength n)) p ∙ take-at (bytesOf (program s)) _ (programLength n) g in
+    record {
+      program = t;
+      rest = ap (drop (programLength n)) p ∙ drop-at (bytesOf (program s)) _ (programLength n) g;
+      right = ap (runAnswer s (nameAt s (guess s))) t ∙ run-program s b w c (nameAt s (guess s)) ∙ ap done (right-signal s b w c);
+      wrong = λ name z. ap (runAnswer s name) t ∙ run-program s b w c name ∙ ap done (wrong-signal s b w c name z);
+    }
+
+-- And there are acceptances: every well-formed submission that meets the five conditions, with page enough, has one.
+pub every-good-accepted : (s : List ℕ) → Bytes s → (length : ℕ) → WellFormed s → FiveConditions s → programLength (steps s) ≤ length → checkAnswer s length ≡ done (steps s)
+every-good-accepted s b length w c l = accepted-iff s b length (steps s) .1 (refl, w, c, l)

@@ -1,0 +1,244 @@
+-- What holds of a submission that passes checks 1 to 4, and of its claim after check 5.
+-- Its records are a table: its term numbers stand for its terms, one for one.
+use mathlib.Core.Path.{_≡_, refl, sym, ap, ap₂, _∙_, subst}
+use mathlib.Core.Logic.{_↔_, ⊎-elim}
+use mathlib.Core.Bool.{true, false, _||_, false≢true}
+use mathlib.Core.List.{List}
+use mathlib.Core.Option.{Option, none, some}
+use Prim.Native.Nat.{ℕ, zero, suc, _+_, _*_, _<_, _≤_}
+use native.Mathlib.Omega.{arith}
+use lib.Dec.{ltb}
+use borrow.Author.Tests.{ltb-false}
+use Rattle.base.proofs.Order.{lt-or-ge}
+use Rattle.base.proofs.Says.{Says, says-true, says-eqb, says-ltb, says-and, says-or, not-not-false, or-false, none-fails}
+use Rattle.term.specs.Term.{Kind, plain, public, private, otherKind, symmetric, asymmetric, Head, pair, part, encrypt, decrypt, Term, atom, node, isKey, inverse, Match, Keyed, builds, Message}
+use Rattle.term.specs.Table.{branch, message}
+use Rattle.term.proofs.Table.{Below, Table, decode-inj, decoded-reads}
+use Rattle.submission.specs.Answer.{passes}
+use Rattle.submission.specs.Contents.{Bytes, badCount, check1, check2}
+use Rattle.submission.specs.Record.{terms, entries, steps, kindAt, xAt, yAt, nameAt, entryAt, guess, verifying, wayAt, companion, Shape, atomic, compound, shapeOf, takes, isAtomic, recordOf, recordAt, term, inverseKinds, areInverse}
+use Rattle.submission.specs.Claim.{Way, another-step, at-start, inverse-key, wayOf, companionFits}
+use Rattle.submission.specs.Check.{badTerm, check3, badKnowledge, check4, goodClaim, check5, checks1to4, checks1to5}
+use Rattle.submission.proofs.Answer.{if-passes, at-passes, then-passes}
+use Rattle.submission.proofs.Shape.{kindFor, shape-kind, Listable, kind-shape, Shaped, Good, good, name-bytes, same-record}
+
+-- the kinds of keys, and those of a key and its inverse
+abbrev Key : Kind → Type 0
+Key κ = isKey (atom κ 0)
+
+key-named : (κ : Kind) → Key κ → (n : ℕ) → isKey (atom κ n)
+key-named plain k n = k
+key-named public k n = k
+key-named private k n = k
+
+named-key : (κ : Kind) (n : ℕ) → isKey (atom κ n) → Key κ
+named-key plain n k = k
+named-key public n k = k
+named-key private n k = k
+
+abbrev KindPair : ℕ → ℕ → Type 0
+KindPair k j = (κ : Kind) × Key κ × (k ≡ kindFor (atomic κ)) × (j ≡ kindFor (atomic (otherKind κ)))
+
+says-kinds : (k j : ℕ) → Says (inverseKinds k j) (KindPair k j)
+says-kinds k j = (
+  λ e. ⊎-elim (λ (a, b). (public, tt, a, b)) (λ (a, b). (private, tt, a, b))
+      (says-or _ _ (says-and _ _ (says-eqb k 2) (says-eqb j 3)) (says-and _ _ (says-eqb k 3) (says-eqb j 2)) .0 e),
+  λ (κ, y, a, b). back κ y a b,
+)
+  where
+    back : (κ : Kind) → Key κ → k ≡ kindFor (atomic κ) → j ≡ kindFor (atomic (otherKind κ)) → inverseKinds k j ≡ true
+    back plain y a b = absurd y
+    back public y a b = rw (a, b)
+    back private y a b = rw (a, b)
+
+record-at : (s : List ℕ) (i : ℕ) (z : Shape) → shapeOf (kindAt s i) ≡ some z → recordAt s i ≡ recordOf (some z) (nameAt s i) (xAt s i) (yAt s i)
+unfolding recordAt
+record-at s i z e = ap (λ o. recordOf o (nameAt s i) (xAt s i) (yAt s i)) e
+
+below-shaped : (s : List ℕ) (i : ℕ) (z : Shape) → Shaped s i z → Below i (recordOf (some z) (nameAt s i) (xAt s i) (yAt s i))
+below-shaped s i (atomic κ) f = tt
+below-shaped s i (compound h) f = (f .0, f .1 .0)
+
+module _ (s : List ℕ) (bytes : Bytes s) (all : (i : ℕ) → i < terms s → Good s i) where
+  earlier-at : (i : ℕ) → i < terms s → Below i (recordAt s i)
+  earlier-at i l = let g = all i l in subst (Below i) (sym (record-at s i (g .shape) (g .has))) (below-shaped s i (g .shape) (g .fits))
+
+  distinct-at : (i j : ℕ) → i < terms s → j < terms s → recordAt s i ≡ recordAt s j → i ≡ j
+  distinct-at i j l m e =
+      let g = all i l in
+      let h = all j m in
+      let (p, x, y) = same-record (g .shape) (h .shape) _ _ _ _ _ _ (name-bytes (bytes _) (bytes _) (bytes _) (bytes _))
+      (sym (record-at s i (g .shape) (g .has)) ∙ e ∙ record-at s j (h .shape) (h .has)) in
+      let k : kindAt s i ≡ kindAt s j = shape-kind _ _ (g .has) ∙ ap kindFor p ∙ sym (shape-kind _ _ (h .has)) in
+      ⊎-elim (λ a. absurd (h .new i a k x y)) (λ a. ⊎-elim (λ b. absurd (g .new j b (sym k) (sym x) (sym y))) (λ b. omega arith) (lt-or-ge j i)) (lt-or-ge i j)
+
+  table-at : Table (recordAt s) (terms s) (term s)
+  unfolding term
+  table-at = record { reads = decoded-reads (recordAt s) (terms s) earlier-at; earlier = earlier-at; distinct = distinct-at }
+
+-- ---- a record's term, by its kind
+module _ (s : List ℕ) (bytes : Bytes s) (all : (i : ℕ) → i < terms s → Good s i) (t : Table (recordAt s) (terms s) (term s)) where
+  term-at : (i : ℕ) (z : Shape) → i < terms s → shapeOf (kindAt s i) ≡ some z → term s i ≡ message (term s) (recordOf (some z) (nameAt s i) (xAt s i) (yAt s i))
+  term-at i z l e = t .reads i l ∙ ap (message (term s)) (record-at s i z e)
+
+  term-of-kind : (i : ℕ) (z : Shape) → Listable z → i < terms s → kindAt s i ≡ kindFor z → term s i ≡ message (term s) (recordOf (some z) (nameAt s i) (xAt s i) (yAt s i))
+  term-of-kind i z f l e = term-at i z l (ap shapeOf e ∙ kind-shape z f)
+
+  -- the kind and the name of an atom
+  atom-of : (i : ℕ) (κ : Kind) (n : ℕ) → i < terms s → term s i ≡ atom κ n → (kindAt s i ≡ kindFor (atomic κ)) × (nameAt s i ≡ n)
+  atom-of i κ n l e = go (all i l .shape) (all i l .has)
+    where
+      go : (z : Shape) → shapeOf (kindAt s i) ≡ some z → (kindAt s i ≡ kindFor (atomic κ)) × (nameAt s i ≡ n)
+      go (atomic κ′) h =
+          let u = sym (term-at i (atomic κ′) l h) ∙ e in
+          let p : κ′ ≡ κ = cc in
+          (shape-kind _ _ h ∙ ap (λ k. kindFor (atomic k)) p, cc)
+      go (compound h′) h = let u = sym (term-at i (compound h′) l h) ∙ e in absurd (let o : _≡_ {A = ℕ} 0 1 = cc in omega arith)
+
+  -- the key that a head takes
+  key-taken : (h : Head) (i : ℕ) (a : Term) → i < terms s → takes h (kindAt s i) ≡ true → builds h a (term s i)
+  key-taken pair i a l e = tt
+  key-taken (part x) i a l e = absurd (false≢true e)
+  key-taken (encrypt symmetric) i a l e = subst (Keyed symmetric) (sym (term-of-kind i (atomic plain) tt l (says-eqb _ _ .0 e))) tt
+  key-taken (encrypt asymmetric) i a l e =
+      ⊎-elim (λ k. subst isKey (sym (term-of-kind i (atomic public) tt l k)) tt) (λ k. subst isKey (sym (term-of-kind i (atomic private) tt l k)) tt)
+      (says-or _ _ (says-eqb _ _) (says-eqb _ _) .0 e)
+  key-taken (decrypt c) i a l e = absurd (false≢true e)
+
+  messages-below : (k i : ℕ) → i < k → i < terms s → Message (term s i)
+  messages-below zero i b l = absurd (omega arith)
+  messages-below (suc k) i b l = go (all i l .shape) (all i l .has) (all i l .fits) (messages-below k)
+    where
+      go : (z : Shape) → shapeOf (kindAt s i) ≡ some z → Shaped s i z → ((j : ℕ) → j < k → j < terms s → Message (term s j)) → Message (term s i)
+      go (atomic κ) h f ih = subst Message (sym (term-at i (atomic κ) l h)) tt
+      go (compound o) h f ih =
+          subst Message (sym (term-at i (compound o) l h))
+          (key-taken o (yAt s i) (term s (xAt s i)) (omega arith) (f .1 .1), ih (xAt s i) (omega arith) (omega arith), ih (yAt s i) (omega arith) (omega arith))
+
+  -- keys of one name, one the other's inverse
+  kinds-inverse : (i j : ℕ) (κ : Kind) → i < terms s → j < terms s → Key κ → kindAt s i ≡ kindFor (atomic κ) → kindAt s j ≡ kindFor (atomic (otherKind κ)) →
+      nameAt s i ≡ nameAt s j → Match asymmetric (term s i) (term s j)
+  kinds-inverse i j κ l m k e f n =
+      let p = term-of-kind i (atomic κ) tt l e in
+      let q = term-of-kind j (atomic (otherKind κ)) tt m f in
+      record { fits = subst isKey (sym p) (key-named κ k (nameAt s i)); turned = q ∙ ap (atom (otherKind κ)) (sym n) ∙ sym (ap inverse p) }
+
+  inverse-kinds : (i j : ℕ) → i < terms s → j < terms s → Match asymmetric (term s i) (term s j) →
+      KindPair (kindAt s i) (kindAt s j) × (nameAt s i ≡ nameAt s j)
+  inverse-kinds i j l m u = go (all i l .shape) (all i l .has)
+    where
+      go : (z : Shape) → shapeOf (kindAt s i) ≡ some z → KindPair (kindAt s i) (kindAt s j) × (nameAt s i ≡ nameAt s j)
+      go (atomic κ) h =
+          let p = term-at i (atomic κ) l h in
+          let (f, n) = atom-of j (otherKind κ) (nameAt s i) m (u .turned ∙ ap inverse p) in
+          ((κ, named-key κ (nameAt s i) (subst isKey p (u .fits)), shape-kind _ _ h, f), sym n)
+      go (compound o) h = absurd (subst isKey (term-at i (compound o) l h) (u .fits))
+
+  says-inverse : (i j : ℕ) → i < terms s → j < terms s → Says (areInverse s i j) (Match asymmetric (term s i) (term s j))
+  unfolding areInverse
+  says-inverse i j l m =
+      let w : Says (areInverse s i j) (KindPair (kindAt s i) (kindAt s j) × ((xAt s i ≡ xAt s j) × (yAt s i ≡ yAt s j))) = says-and _ _ (says-kinds _ _) (says-and _ _ (says-eqb _ _) (says-eqb _ _)) in (
+        λ e. let (u, v) = w .0 e in kinds-inverse i j (u .0) l m (u .1) (u .2) (u .3) (ap₂ (λ x y. x * 256 + y) (v .0) (v .1)),
+        λ h. let (u, n) = inverse-kinds i j l m h in w .1 (u, name-bytes (bytes _) (bytes _) (bytes _) (bytes _) n),
+      )
+
+-- ---- checks 1 to 4
+pub record Listed (s : List ℕ) : Type 0 where
+  pub bytes : Bytes s
+  pub terms-least : 1 ≤ terms s
+  pub terms-most : terms s ≤ 250
+  pub entries-most : entries s ≤ 64
+  pub steps-most : steps s ≤ 128
+  pub good : (i : ℕ) → i < terms s → Good s i
+  pub table : Table (recordAt s) (terms s) (term s)
+  pub messages : (i : ℕ) → i < terms s → Message (term s i)
+  pub inverse-iff : (i j : ℕ) → i < terms s → j < terms s → (areInverse s i j ≡ true) ↔ Match asymmetric (term s i) (term s j)
+  pub same-number : (i j : ℕ) → i < terms s → j < terms s → term s i ≡ term s j → i ≡ j
+  pub entry-below : (i : ℕ) → i < entries s → entryAt s i < terms s
+
+within : (a b c : ℕ) → ltb b a || ltb c b ≡ false → (a ≤ b) × (b ≤ c)
+within a b c e = let u = or-false _ _ .0 e in (ltb-false b a (u .0), ltb-false c b (u .1))
+
+pub listed : (s : List ℕ) → Bytes s → checks1to4 s ≡ passes → Listed s
+unfolding checks1to4 badKnowledge
+listed s b e =
+    let (e1, r) = then-passes (check1 s) _ .0 e in
+    let (e2, r) = then-passes (check2 s) _ .0 r in
+    let (e3, e4) = then-passes (check3 s) (check4 s) .0 r in
+    let counts = none-fails (badCount s) 4 .0 (at-passes 2 _ .0 e2) in
+    let bad-entry = none-fails (badKnowledge s) (entries s) .0 (at-passes 4 _ .0 e4) in
+    let all : (i : ℕ) → i < terms s → Good s i = λ i l. good s i (none-fails (badTerm s) (terms s) .0 (at-passes 3 _ .0 e3) i l) in
+    let t = table-at s b all in
+    record {
+      bytes = b;
+      terms-least = within 1 (terms s) 250 (counts 0 (omega arith)) .0;
+      terms-most = within 1 (terms s) 250 (counts 0 (omega arith)) .1;
+      entries-most = within 0 (entries s) 64 (counts 1 (omega arith)) .1;
+      steps-most = within 0 (steps s) 128 (counts 2 (omega arith)) .1;
+      good = all;
+      table = t;
+      messages = λ i l. messages-below s b all t (suc i) i (omega arith) l;
+      inverse-iff = says-inverse s b all t;
+      same-number = decode-inj t;
+      entry-below = λ i l. says-ltb _ _ .0 (not-not-false _ .0 (or-false _ _ .0 (bad-entry i l) .0));
+    }
+
+-- a listed compound term, by its record's kind
+pub compound-term : {s : List ℕ} → Listed s → (i : ℕ) (h : Head) → Listable (compound h) → i < terms s → kindAt s i ≡ kindFor (compound h) →
+    (xAt s i < terms s) × (yAt s i < terms s) × (term s i ≡ node h (term s (xAt s i)) (term s (yAt s i)))
+compound-term {s} z i h f l e =
+    let u : Below i (branch h (xAt s i) (yAt s i)) = subst (Below i) (record-at s i (compound h) (ap shapeOf e ∙ kind-shape (compound h) f)) (z .table .earlier i l) in
+    (omega arith, omega arith, term-of-kind s (z .bytes) (z .good) (z .table) i (compound h) f l e)
+
+-- ---- check 5
+abbrev pub InRange : List ℕ → Way → Type 0
+InRange s another-step = companion s < steps s
+InRange s at-start = companion s ≡ 0
+InRange s inverse-key = companion s < terms s
+
+pub record Claimed (s : List ℕ) : Type 0 where
+  pub read : Listed s
+  pub guess-below : guess s < terms s
+  pub guess-kind : Kind
+  pub guess-shape : shapeOf (kindAt s (guess s)) ≡ some (atomic guess-kind)
+  pub guess-term : term s (guess s) ≡ atom guess-kind (nameAt s (guess s))
+  pub verifying-below : verifying s < steps s
+  pub way : Way
+  pub has-way : wayOf (wayAt s) ≡ some way
+  pub in-range : InRange s way
+
+atomic-shape : (o : Option Shape) → isAtomic o ≡ true → (κ : Kind) × (o ≡ some (atomic κ))
+atomic-shape none e = absurd (false≢true e)
+atomic-shape (some (atomic κ)) e = (κ, refl)
+atomic-shape (some (compound h)) e = absurd (false≢true e)
+
+way-in-range : (s : List ℕ) (o : Option Way) → companionFits s o ≡ true → (w : Way) × (o ≡ some w) × InRange s w
+way-in-range s none e = absurd (false≢true e)
+way-in-range s (some another-step) e = (another-step, refl, says-ltb _ _ .0 e)
+way-in-range s (some at-start) e = (at-start, refl, says-eqb _ _ .0 e)
+way-in-range s (some inverse-key) e = (inverse-key, refl, says-ltb _ _ .0 e)
+
+pub claimed : (s : List ℕ) → Bytes s → checks1to5 s ≡ passes → Claimed s
+unfolding checks1to5 goodClaim
+claimed s b e =
+    let (r, e5) = then-passes (checks1to4 s) (check5 s) .0 e in
+    let z = listed s b r in
+    let (g, a, v, c) = says-all s .0 (not-not-false _ .0 (if-passes _ 5 0 .0 e5)) in
+    let (κ, k) = atomic-shape _ a in
+    let (w, f, i) = way-in-range s _ c in
+    record {
+      read = z;
+      guess-below = g;
+      guess-kind = κ;
+      guess-shape = k;
+      guess-term = term-at s (z .bytes) (z .good) (z .table) (guess s) (atomic κ) g k;
+      verifying-below = v;
+      way = w;
+      has-way = f;
+      in-range = i;
+    }
+  where
+    says-all : (s : List ℕ) → Says (goodClaim s) ((guess s < terms s) × (isAtomic (shapeOf (kindAt s (guess s))) ≡ true) × (verifying s < steps s) × (companionFits s (wayOf (wayAt s)) ≡ true))
+    says-all s =
+        let w = says-and _ _ (says-ltb (guess s) (terms s)) (says-and _ _ (says-true (isAtomic (shapeOf (kindAt s (guess s))))) (says-and _ _ (says-ltb (verifying s) (steps s)) (says-true (companionFits s (wayOf (wayAt s)))))) in
+        (λ e. let u = w .0 e in (u .0, u .1 .0, u .1 .1 .0, u .1 .1 .1), λ u. w .1 (u .0, (u .1, (u .2, u .3))))
