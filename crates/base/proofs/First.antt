@@ -1,6 +1,6 @@
 -- What a loop knows that looks for the first number at which a test holds, and what its caller learns of the answer.
-use mathlib.Core.Path.{_≡_, refl, sym, _∙_, subst, ap}
-use mathlib.Core.Bool.{Bool, true, false}
+use mathlib.Core.Path.{_≡_, refl, sym, _∙_, ap}
+use mathlib.Core.Bool.{Bool, true, false, true≢false}
 use mathlib.Core.Option.{Option, none, some}
 use mathlib.Core.Logic.{⊎-elim}
 use Prim.Native.Nat.{ℕ, zero, suc, _+_, _≤_, _<_}
@@ -8,6 +8,7 @@ use native.Mathlib.Nat.{eq-or-lt-of-le, not-suc-le-zero}
 use native.Mathlib.Omega.{arith}
 use borrow.Author.Count.{below-more}
 use Rattle.base.specs.First.{firstFrom, first, isSome, any}
+use Rattle.base.proofs.Order.{lt-or-ge}
 
 -- what a loop has shown that looks for it and has come to i
 pub record Passed (p : ℕ → Bool) (n i : ℕ) : Type 0 where
@@ -88,3 +89,13 @@ module _ (p : ℕ → Bool) (n : ℕ) where
   pub first-some : (i : ℕ) → first p n ≡ some i → (i < n) × (p i ≡ true) × ((k : ℕ) → k < i → p k ≡ false)
   unfolding first
   first-some i e = let r = some-inv p n 0 i e in (omega arith, r .2, λ k l. r .3 k (omega arith) l)
+
+-- the first place at which a test holds is found no later than any such place
+pub first-found : (p : ℕ → Bool) (n r : ℕ) → r < n → p r ≡ true → (k : ℕ) × (first p n ≡ some k) × (k ≤ r) × (p k ≡ true)
+first-found p n r l e = go (first p n) refl
+  where
+    go : (o : Option ℕ) → first p n ≡ o → (k : ℕ) × (first p n ≡ some k) × (k ≤ r) × (p k ≡ true)
+    go none f = absurd (true≢false (sym e ∙ first-none p n f r l))
+    go (some k) f =
+        let u = first-some p n k f in
+        (k, f, ⊎-elim (λ b. absurd (true≢false (sym e ∙ u .2 r b))) (λ b. b) (lt-or-ge r k), u .1)

@@ -1,6 +1,6 @@
 -- Laws of a list that grows at its end: its length, an entry once there stays, and what entry i was made from.
-use mathlib.Core.Path.{_≡_, refl, sym, _∙_, subst}
-use mathlib.Core.List.{List, [], _∷_, _++_}
+use mathlib.Core.Path.{_≡_, _∙_, subst}
+use mathlib.Core.List.{List, [], _∷_}
 use Prim.Native.Nat.{ℕ, zero, suc, _+_, _-_, _≤_, _<_}
 use native.Mathlib.Nat.{add-zero, add-suc, zero-add}
 use native.Mathlib.Omega.{arith}

@@ -1,5 +1,7 @@
 pub mod Bools
+pub mod Chain
 pub mod First
+pub mod FirstMore
 pub mod Fit
 pub mod Grow
 pub mod Map

@@ -13,6 +13,10 @@ use Rattle.base.proofs.First.{first-none, first-some, passed-all}
 abbrev pub Says : Bool → Type 0 → Type 0
 Says b P = (b ≡ true) ↔ P
 
+pub true-or-false : (b : Bool) → (b ≡ true) ⊎ (b ≡ false)
+true-or-false true = inl refl
+true-or-false false = inr refl
+
 pub says-true : (b : Bool) → Says b (b ≡ true)
 says-true b = (λ e. e, λ e. e)
 
@@ -34,6 +38,12 @@ pub says-not : {P : Type 0} (a : Bool) → Says a P → Says (not a) (P → ⊥)
 says-not true p = (λ e. absurd (false≢true e), λ f. absurd (f (p .0 refl)))
 says-not false p = (λ e x. false≢true (p .1 x), λ f. refl)
 
+-- two tests that say the same are equal
+pub same-test : {P : Type 0} (a b : Bool) → Says a P → Says b P → a ≡ b
+same-test true b p q = sym (q .1 (p .0 refl))
+same-test false true p q = p .1 (q .0 refl)
+same-test false false p q = refl
+
 -- what the test says that came out false
 pub denies : {P : Type 0} (a : Bool) → Says a P → (a ≡ false) ↔ (P → ⊥)
 denies true p = (λ e. absurd (true≢false e), λ f. absurd (f (p .0 refl)))
@@ -46,6 +56,10 @@ not-not-false false = (λ e. absurd (true≢false e), λ e. absurd (false≢true
 pub or-false : (a b : Bool) → (a || b ≡ false) ↔ ((a ≡ false) × (b ≡ false))
 or-false true b = (λ e. absurd (true≢false e), λ u. u .0)
 or-false false b = (λ e. (refl, e), λ u. u .1)
+
+pub and-false : (a b : Bool) → (a && b ≡ false) ↔ ((a ≡ false) ⊎ (b ≡ false))
+and-false true b = (λ e. inr e, ⊎-elim (λ e. absurd (true≢false e)) (λ e. e))
+and-false false b = (λ e. inl refl, λ u. refl)
 
 -- no place fails, and some place does
 pub none-fails : (p : ℕ → Bool) (n : ℕ) → (first p n ≡ none) ↔ ((k : ℕ) → k < n → p k ≡ false)

@@ -83,8 +83,10 @@ clear-iff s b w =
       },
     )
 
--- Demand 2: the submission is accepted with n exactly when n is its count of steps, it is well formed, it meets the five
--- conditions, and the page is long enough.
+-- ---- Demand 2, acceptance
+-- "a submission is well formed when it passes checks 1 to 5 and every step passes check 6; it has page enough when row 11 doesn't
+-- hold. An acceptance carries N": checking accepts with n exactly when n is the count of steps, the submission is well formed and
+-- meets the five conditions, and the page has 3N+4 bytes.
 pub accepted-iff : (s : List ℕ) → Bytes s → (length n : ℕ) →
     (checkAnswer s length ≡ done n) ↔ ((n ≡ steps s) × WellFormed s × FiveConditions s × (programLength (steps s) ≤ length))
 accepted-iff s b length n =

@@ -2,16 +2,17 @@
 -- stand for its terms, one for one.
 use mathlib.Core.Path.{_≡_, refl, sym, ap, subst}
 use mathlib.Core.Logic.{_↔_, _⊎_, inl, inr, ⊎-elim, Iff·trans, Iff·and}
-use mathlib.Core.Bool.{Bool, true, false, _&&_, _||_, not, true≢false, false≢true}
+use mathlib.Core.Bool.{true, false, _&&_, _||_, not}
 use mathlib.Core.List.{List}
 use mathlib.Core.Option.{some}
 use Prim.Native.Nat.{ℕ, _<_, _≤_}
 use native.Mathlib.Omega.{arith}
 use lib.Dec.{eqb}
-use Rattle.base.proofs.Says.{Says, says-eqb, says-and, says-or, says-not, denies, or-false}
-use Rattle.term.specs.Term.{head?, test, Side, left, right, Head, pair, part, encrypt, decrypt, Term}
+use Rattle.base.proofs.Says.{Says, says-eqb, says-and, says-or, says-not, denies, or-false, and-false}
+use Rattle.term.specs.Term.{head?, Side, left, right, Head, pair, part, encrypt, decrypt, Term}
 use Rattle.term.specs.Rule.{headOf}
 use Rattle.term.specs.Step.{Deducible, Undoes}
+use Rattle.term.proofs.Reduce.{says-test}
 use Rattle.term.proofs.Rule.{head-inj}
 use Rattle.submission.specs.Record.{terms, steps, ruleAt, pAt, conclusionAt, entryAt, guess, verifying, wayAt, companion, term, InKnowledge}
 use Rattle.submission.specs.Claim.{Way, another-step, at-start, inverse-key, wayOf}
@@ -24,14 +25,6 @@ use Rattle.deduction.specs.Deduce.{entryMarks, isDeducible}
 use Rattle.deduction.proofs.Exact.{deducible-iff}
 use Rattle.checker.specs.Check.{reachable, isPremise, samePremises, hasSecondWay, undoes, undoesStep, companionUndoes, undone}
 use Rattle.checker.specs.Condition.{rule, first, second, concluded, Known, Premise, Differs, SecondWay, UndoesNone}
-
-says-test : {P : Type 0} (d : Dec P) → Says (test d) P
-says-test (yes p) = (λ e. p, λ x. refl)
-says-test (no f) = (λ e. absurd (false≢true e), λ x. absurd (f x))
-
-and-false : (a b : Bool) → (a && b ≡ false) ↔ ((a ≡ false) ⊎ (b ≡ false))
-and-false true b = (λ e. inr e, ⊎-elim (λ e. absurd (true≢false e)) (λ e. e))
-and-false false b = (λ e. inl refl, λ u. refl)
 
 -- before step 0 the knowledge and the guess are known
 known-at-start : (s : List ℕ) (t : Term) → Known s 0 t ↔ (InKnowledge s t ⊎ (t ≡ term s (guess s)))

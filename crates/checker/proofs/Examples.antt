@@ -22,10 +22,11 @@ use Rattle.derivation.specs.Step.{secondAt, badStep, unfounded, checkSteps}
 use Rattle.deduction.specs.Deduce.{builtWithin, round, rounds, entryMarks, isDeducible}
 use Rattle.machine.specs.Program.{relationOf, instructionBytes, bytesOf, instructionAt, testOf, badInstruction, badTest, badProgram}
 use Rattle.machine.specs.Run.{guessed, initial, executed, registers, signals, signal, runAnswer}
+use Rattle.text.specs.Text.{digits, stepLine, testLine, stepLines, answerText}
 use Rattle.checker.specs.Check.{reachable, samePremises, undoesStep, undone, checks1to10, checkAnswer}
 use Rattle.checker.specs.Page as page
 use Rattle.checker.specs.Page.{lowest, instruction, program, pageAfter}
-use Rattle.checker.specs.Text.{digits, stepLine, testLine, stepLines, answerText, verdictText}
+use Rattle.checker.specs.Text.{verdictText}
 
 -- what is seen of a submission
 pub record Outcome : Type 0 where

@@ -4,5 +4,5 @@ pub mod Examples
 pub mod Program
 pub mod Promise
 pub mod PromiseExamples
-pub mod Signal
 pub mod Refusal
+pub mod Signal

@@ -1,16 +1,14 @@
 -- The register program of a submission, run by the machine: what each register holds, for any relation of terms and values that every step keeps.
-use mathlib.Core.Path.{_≡_, refl, ap, sym, _∙_, subst}
-use mathlib.Core.Bool.{Bool, true, false, cond, true≢false}
+use mathlib.Core.Path.{_≡_, refl, ap, _∙_, subst}
+use mathlib.Core.Bool.{Bool, true, false, cond}
 use mathlib.Core.List.{List}
 use mathlib.Core.Logic.{⊎-elim}
-use mathlib.Core.Option.{Option, none, some}
 use Prim.Native.Nat.{ℕ, zero, suc, _≤_, _<_}
 use native.Mathlib.Omega.{arith}
 use lib.Dec.{eqb}
 use lib.ListN.{length, getD}
 use borrow.Author.Tests.{eqb-true, eq-eqb}
-use Rattle.base.specs.First.{first}
-use Rattle.base.proofs.First.{first-none, first-some}
+use Rattle.base.proofs.First.{first-found}
 use Rattle.base.proofs.Grow.{length-listed, listed-at}
 use Rattle.base.proofs.Order.{lt-or-ge}
 use Rattle.base.proofs.Says.{says-eqb, says-any}
@@ -28,16 +26,6 @@ use Rattle.machine.proofs.Program.{instruction-back}
 use Rattle.machine.proofs.Run.{register-kept, register-written, register-entry, register-guess}
 use Rattle.checker.specs.Condition.{rule, first as firstTerm, second, concluded}
 use Rattle.checker.specs.Page.{lowest, instruction, program}
-
--- the first place at which a test holds is found no later than any such place
-first-found : (p : ℕ → Bool) (n r : ℕ) → r < n → p r ≡ true → (k : ℕ) × (first p n ≡ some k) × (k ≤ r) × (p k ≡ true)
-first-found p n r l e = go (first p n) refl
-  where
-    go : (o : Option ℕ) → first p n ≡ o → (k : ℕ) × (first p n ≡ some k) × (k ≤ r) × (p k ≡ true)
-    go none f = absurd (true≢false (sym e ∙ first-none p n f r l))
-    go (some k) f =
-        let u = first-some p n k f in
-        (k, f, ⊎-elim (λ b. absurd (true≢false (sym e ∙ u .2 r b))) (λ b. b) (lt-or-ge r k), u .1)
 
 module _ (s : List ℕ) where
   -- ---- "A premise is taken from its lowest register."

@@ -29,15 +29,19 @@ run-program : (s : List ℕ) → Bytes s → WellFormed s → FiveConditions s �
 unfolding runAnswer
 run-program s b w c name = rw (w .read, program-good s b w c)
 
--- what an acceptance that carries n promises of the page after checking
+-- ---- Demand 3
+-- what is promised of the page after an acceptance that carries n
 pub record KeptPromise (s page : List ℕ) (n : ℕ) : Type 0 where
-  -- "In demand 3 the program is what checking wrote on the page: three bytes for each step in the count that the acceptance carries, and four more."
+  -- "the program is what checking wrote on the page: three bytes for each step in the count that the acceptance carries, and four more"
   pub program : take (programLength n) (pageAfter s page) ≡ bytesOf (program s)
+  -- "An acceptance .. changes the first 3N+4 bytes of the page only."
   pub rest : drop (programLength n) (pageAfter s page) ≡ drop (programLength n) page
+  -- "There run gets these bytes, the same submission and a name: that of the submission's own guess, which is the right one,
   pub right : runAnswer s (nameAt s (guess s)) (take (programLength n) (pageAfter s page)) ≡ done 1
+  -- or that of a wrong guess, with one and the same program for all names."
   pub wrong : (name : ℕ) → WrongGuess s name → runAnswer s name (take (programLength n) (pageAfter s page)) ≡ done 0
 
--- Every acceptance keeps the promise.
+-- every acceptance keeps the promise
 pub demand-3 : (s page : List ℕ) → Bytes s → (n : ℕ) → checkAnswer s (length page) ≡ done n → KeptPromise s page n
 demand-3 s page b n e =
     let (f, w, c, l) = accepted-iff s b (length page) n .0 e in
@@ -51,6 +55,6 @@ demand-3 s page b n e =
       wrong = λ name z. ap (runAnswer s name) t ∙ run-program s b w c name ∙ ap done (wrong-signal s b w c name z);
     }
 
--- And there are acceptances: every well-formed submission that meets the five conditions, with page enough, has one.
+-- and every well-formed submission that meets the five conditions, with page enough, is accepted
 pub every-good-accepted : (s : List ℕ) → Bytes s → (length : ℕ) → WellFormed s → FiveConditions s → programLength (steps s) ≤ length → checkAnswer s length ≡ done (steps s)
 every-good-accepted s b length w c l = accepted-iff s b length (steps s) .1 (refl, w, c, l)

@@ -8,14 +8,13 @@ use native.Mathlib.Decide.{ℕ-discrete}
 use native.Mathlib.Omega.{arith}
 use lib.Dec.{eqb, ltb, lit<, lit≤}
 use lib.ListN.{length, take}
-use borrow.Author.Tests.{ltb-true}
-use Rattle.base.proofs.Bools.{or-left, or-right, and-true-left, and-true-right}
-use Rattle.base.proofs.Says.{says-eqb, says-and, says-not, says-any, says-true}
+use Rattle.base.proofs.Bools.{or-left, or-right}
+use Rattle.base.proofs.Says.{says-eqb, says-ltb, says-and, says-not, says-any, says-true}
 use Rattle.base.specs.First.{first, firstFrom, any}
 use Rattle.base.specs.Grow.{grow}
 use Rattle.term.specs.Term.{Term, atom, node, term?, test, asymmetric, inverse, Match, Part}
 use Rattle.term.specs.Table.{decoded}
-use Rattle.term.proofs.Reduce.{test-yes, match-sym}
+use Rattle.term.proofs.Reduce.{says-test, match-sym}
 use Rattle.submission.specs.Answer.{done}
 use Rattle.submission.specs.Contents.{Bytes, start}
 use Rattle.submission.specs.Record.{entries, entryAt, guess, nameAt, term, recordAt, shapeOf, InKnowledge}
@@ -35,8 +34,8 @@ areBytes (x ∷ xs) = ltb x 256 && areBytes xs
 are-bytes : (s : List ℕ) → areBytes s ≡ true → Bytes s
 unfolding areBytes
 are-bytes [] e i = omega arith
-are-bytes (x ∷ xs) e zero = ltb-true x 256 (and-true-left (ltb x 256) (areBytes xs) e)
-are-bytes (x ∷ xs) e (suc i) = are-bytes xs (and-true-right (ltb x 256) (areBytes xs) e) i
+are-bytes (x ∷ xs) e zero = says-and _ _ (says-ltb x 256) (says-true (areBytes xs)) .0 e .0
+are-bytes (x ∷ xs) e (suc i) = are-bytes xs (says-and _ _ (says-ltb x 256) (says-true (areBytes xs)) .0 e .1) i
 
 isPart : Term → Term → Bool
 isPart x (atom κ n) = test (term? x (atom κ n))
@@ -44,8 +43,8 @@ isPart x (node h a b) = test (term? x (node h a b)) || (isPart x a || isPart x b
 
 part-found : (x t : Term) → Part x t → isPart x t ≡ true
 unfolding isPart
-part-found x (atom κ n) p = test-yes (term? x (atom κ n)) p
-part-found x (node h a b) (inl e) = or-left (test (term? x (node h a b))) _ (test-yes (term? x (node h a b)) e)
+part-found x (atom κ n) p = says-test (term? x (atom κ n)) .1 p
+part-found x (node h a b) (inl e) = or-left (test (term? x (node h a b))) _ (says-test (term? x (node h a b)) .1 e)
 part-found x (node h a b) (inr (inl p)) = or-right (test (term? x (node h a b))) _ (or-left (isPart x a) _ (part-found x a p))
 part-found x (node h a b) (inr (inr p)) = or-right (test (term? x (node h a b))) _ (or-right (isPart x a) _ (part-found x b p))
 
@@ -87,8 +86,9 @@ shown : (e : Example) (n name : ℕ) → got e ≡ want e → e .wanted .answer 
     areBytes (e .bytes) && isWrong (e .bytes) name ≡ true → Shown e n name
 shown e n name g a l t page f =
     let s = e .bytes in
-    let b : Bytes s = are-bytes s (and-true-left (areBytes s) (isWrong s name) t) in
-    let z : WrongGuess s name = is-wrong s name (and-true-right (areBytes s) (isWrong s name) t) in
+    let (u, v) = says-and _ _ (says-true (areBytes s)) (says-true (isWrong s name)) .0 t in
+    let b : Bytes s = are-bytes s u in
+    let z : WrongGuess s name = is-wrong s name v in
     let (m, w, c, k) = accepted-iff s b (e .length) n .0 (ap (λ o. o .answer) g ∙ a) in
     let p : KeptPromise s page n = demand-3 s page b n (accepted-iff s b (length page) n .1 (m, w, c, omega arith)) in
     (p, z, p .wrong name z)

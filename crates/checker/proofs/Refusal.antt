@@ -56,26 +56,28 @@ module _ {P : ℕ → Type 0} (s : List ℕ) where
       (then-with (check9 s) (check10 s) (if-with (not (hasSecondWay s (wayOf (wayAt s)))) 9 (verifying s) (f 9 (omega arith) (omega arith)))
       (at-with 10 (first (undone s) (steps s)) (f 10 (omega arith) (omega arith))))))
 
--- ---- the three calls
+-- ---- Demand 1, the numbers of refusals: checking makes checks 1 to 11
 pub check-refusals : (s : List ℕ) (pageLength number place : ℕ) → checkAnswer s pageLength ≡ refused number place → (1 ≤ number) × (number ≤ 11)
 unfolding checkAnswer
 check-refusals s pageLength number place =
     refused-with {P = λ k. (1 ≤ k) × (k ≤ 11)} (andThen (checks1to10 s) (check11 s pageLength)) (steps s) number place
     (then-with (checks1to10 s) (check11 s pageLength) (ten s (λ k a b. omega arith)) (if-with (ltb pageLength (programLength (steps s))) 11 (programLength (steps s)) (omega arith)))
 
+-- "Deducible makes checks 1 to 4, then 12;
 pub deducible-refusals : (s : List ℕ) (n number place : ℕ) → deducibleAnswer s n ≡ refused number place → ((1 ≤ number) × (number ≤ 4)) ⊎ (number ≡ 12)
 unfolding deducibleAnswer
 deducible-refusals s n number place =
     refused-with {P = λ k. ((1 ≤ k) × (k ≤ 4)) ⊎ (k ≡ 12)} _ _ number place
     (then-with (checks1to4 s) _ (four s (λ k a b. inl (a, b))) (if-with (not (ltb n (terms s))) 12 0 (inr refl)))
 
+-- run makes 1 to 5, then 13."
 pub run-refusals : (s : List ℕ) (name : ℕ) (P : List ℕ) (number place : ℕ) → runAnswer s name P ≡ refused number place → ((1 ≤ number) × (number ≤ 5)) ⊎ (number ≡ 13)
 unfolding runAnswer
 run-refusals s name P number place =
     refused-with {P = λ k. ((1 ≤ k) × (k ≤ 5)) ⊎ (k ≡ 13)} (andThen (checks1to5 s) (check13 s P)) (signal s name P) number place
     (then-with (checks1to5 s) (check13 s P) (five s (λ k a b. inl (a, b))) (if-with (badProgram s P) 13 0 (inr refl)))
 
--- after a refusal "the page keeps its bytes"
+-- "Every refusal carries number and place, and the page keeps its bytes."
 pub refused-page : (s page : List ℕ) (number place : ℕ) → checkAnswer s (length page) ≡ refused number place → pageAfter s page ≡ page
 unfolding pageAfter
 refused-page s page number place e = ap (λ a. pageWith s a page) e

@@ -10,16 +10,16 @@ use lib.Dec.{eqb, ltb}
 use lib.ListN.{length}
 use borrow.Author.Tests.{lt-ltb}
 use Rattle.base.specs.Grow.{listed}
-use Rattle.base.proofs.Bools.{and-true-right}
 use Rattle.base.proofs.Grow.{length-listed, listed-at}
 use Rattle.base.proofs.Order.{lt-or-ge}
-use Rattle.term.specs.Term.{Kind, plain, public, private, Head, Term, atom, single, isKey, inverse, Part, term?, asymmetric}
-use Rattle.term.specs.Reduce.{op, match?}
+use Rattle.base.proofs.Says.{says-and, says-true, denies}
+use Rattle.term.specs.Term.{Kind, plain, public, private, Head, Term, atom, single, isKey, inverse, Part}
+use Rattle.term.specs.Reduce.{op}
 use Rattle.term.specs.Rule.{rules, hasOne}
 use Rattle.term.specs.Step.{Undoes}
-use Rattle.term.proofs.Reduce.{test-yes, test-no, step-op}
+use Rattle.term.proofs.Reduce.{step-op}
 use Rattle.term.proofs.Reach.{Reach, known, reach-iff}
-use Rattle.term.proofs.Guess.{UndoesSome, OutOfReach, WrongGuess as Tried, MayHold, clean, tried, Executed, op-may-hold, another-step-differs, at-start-differs, verified-no-key}
+use Rattle.term.proofs.Guess.{UndoesSome, OutOfReach, FreshGuess, MayHold, clean, tried, Executed, op-may-hold, another-step-differs, at-start-differs, verified-no-key}
 use Rattle.submission.specs.Contents.{Bytes}
 use Rattle.submission.specs.Record.{entries, steps, entryAt, ruleAt, pAt, qAt, conclusionAt, guess, verifying, wayAt, companion, nameAt, term, areInverse, InKnowledge}
 use Rattle.submission.specs.Claim.{Way, another-step, at-start, inverse-key, wayOf}
@@ -31,7 +31,7 @@ use Rattle.derivation.proofs.Founded.{Sound, sound, founded-iff}
 use Rattle.machine.specs.Program.{bytesOf, relationOf, isTest, badInstruction, badTest, badProgram}
 use Rattle.machine.specs.Run.{atomKind, guessed, holds as relates, signals, signal}
 use Rattle.machine.proofs.Program.{byte-count, test-back, program-passes}
-use Rattle.machine.proofs.Run.{register-entry, register-guess}
+use Rattle.machine.proofs.Run.{register-entry, register-guess, says-equal, says-inverse}
 use Rattle.checker.specs.Check.{hasSecondWay}
 use Rattle.checker.specs.Condition.{WellFormed, FiveConditions, Differs, SecondWay, UndoesNone, rule, first, second, concluded}
 use Rattle.checker.specs.Page.{lowest, instruction, program, testOf, testLetter, testSecond}
@@ -85,7 +85,7 @@ module _ (s : List ℕ) (bytes : Bytes s) (w : WellFormed s) (c : FiveConditions
   way-found e = subst (λ o. hasSecondWay s o ≡ true) e (second-way-iff claim shaped .1 (c .secondWay))
 
   inverse-known : wayOf (wayAt s) ≡ some inverse-key → isKnown s (steps s) (companion s) ≡ true
-  inverse-known e = and-true-right (areInverse s (conclusionAt s (verifying s)) (companion s)) _ (way-found e)
+  inverse-known e = says-and (areInverse s (conclusionAt s (verifying s)) (companion s)) _ (says-true _) (says-true _) .0 (way-found e) .1
 
   -- ---- check 13
   instruction-good : (i : ℕ) → i < steps s → badInstruction (written s i) (instruction s i) ≡ false
@@ -134,13 +134,13 @@ module _ (s : List ℕ) (bytes : Bytes s) (w : WellFormed s) (c : FiveConditions
   unfolding relationOf
   asked-right none e z = absurd z
   asked-right (some another-step) e (l, f, d) =
-      test-yes (term? _ _) (right-result (companion s) l ∙ f ∙ sym (right-result (verifying s) (c .present)))
+      says-equal _ _ .1 (right-result (companion s) l ∙ f ∙ sym (right-result (verifying s) (c .present)))
   asked-right (some at-start) e z =
-      test-yes (term? _ _) (right-lowest 0 _ (omega arith) (way-found e) ∙ sym (right-result (verifying s) (c .present)))
+      says-equal _ _ .1 (right-lowest 0 _ (omega arith) (way-found e) ∙ sym (right-result (verifying s) (c .present)))
   asked-right (some inverse-key) e z =
       let r = right-result (verifying s) (c .present) in
-      test-yes (match? asymmetric _ _)
-      (record { fits = subst isKey (sym r) (z .0); turned = right-lowest (steps s) (companion s) (omega arith) (inverse-known e) ∙ z .1 ∙ ap inverse (sym r) })
+      says-inverse _ _ .1
+      (subst isKey (sym r) (z .0), right-lowest (steps s) (companion s) (omega arith) (inverse-known e) ∙ z .1 ∙ ap inverse (sym r))
 
   pub right-signal : signal s right (bytesOf (program s)) ≡ 1
   right-signal = rw (signal-asks s right, asked-right (wayOf (wayAt s)) refl (c .secondWay))
@@ -164,9 +164,9 @@ module _ (s : List ℕ) (bytes : Bytes s) (w : WellFormed s) (c : FiveConditions
         Executed (InKnowledge s) (InDerivation s) (term s (guess s)) (guessed s name) (rule s i) (first s i) (second s i) t
         (value s name i (lowest s (pAt s i))) (value s name i (lowest s (secondAt s i)))
 
-    tried-wrong : Tried (InKnowledge s) (InDerivation s) (term s (guess s)) (guessed s name)
+    fresh-guess : FreshGuess (InKnowledge s) (InDerivation s) (term s (guess s)) (guessed s name)
     unfolding guessed
-    tried-wrong =
+    fresh-guess =
         record {
           sound = λ h p q t m. rw (m .2, m .3, m .4, m .5) (shaped (m .0) (m .1) .step);
           messages = λ t k. rw (k .2) (claim .read .messages (entryAt s (k .0)) (claim .read .entry-below (k .0) (k .1)));
@@ -182,7 +182,7 @@ module _ (s : List ℕ) (bytes : Bytes s) (w : WellFormed s) (c : FiveConditions
     may-lowest : (i : ℕ) → i ≤ steps s → (t : ℕ) → isKnown s i t ≡ true → May (term s t) (value s name i (lowest s t))
     may-lowest i b =
         holds-lowest s name May (λ r l. clean (known (r, l, refl)) refl) (tried refl refl) premises-known
-        (λ i l v u x y o. op-may-hold (InKnowledge s) (InDerivation s) (term s (guess s)) (guessed s name) tried-wrong (executed i l x y o)) i i (omega arith) b
+        (λ i l v u x y o. op-may-hold (InKnowledge s) (InDerivation s) (term s (guess s)) (guessed s name) fresh-guess (executed i l x y o)) i i (omega arith) b
 
     ran : (i : ℕ) → i < steps s → Ran i (concluded s i)
     ran i l =
@@ -202,22 +202,22 @@ module _ (s : List ℕ) (bytes : Bytes s) (w : WellFormed s) (c : FiveConditions
     unfolding relationOf
     asked-wrong none e z = absurd z
     asked-wrong (some another-step) e (l, f, d) =
-        test-no (term? _ _) (λ z.
-        another-step-differs (InKnowledge s) (InDerivation s) (term s (guess s)) (guessed s name) tried-wrong
+        denies _ (says-equal _ _) .1 (λ z.
+        another-step-differs (InKnowledge s) (InDerivation s) (term s (guess s)) (guessed s name) fresh-guess
         (ran (verifying s) (c .present)) out-of-reach (undoes-none (verifying s) (c .kept))
         (subst (Ran (companion s)) f (ran (companion s) l))
         (subst (λ t. UndoesSome (InDerivation s) (rule s (companion s)) (first s (companion s)) t → ⊥) f (undoes-none (companion s) (c .companionKept e)))
         (unlike s (verifying s) (companion s) d)
         (sym verified-value ∙ sym z ∙ result s name (companion s) (steps s) l (omega arith)))
     asked-wrong (some at-start) e k =
-        test-no (term? _ _) (λ z.
-        at-start-differs (InKnowledge s) (InDerivation s) (term s (guess s)) (guessed s name) tried-wrong
+        denies _ (says-equal _ _) .1 (λ z.
+        at-start-differs (InKnowledge s) (InDerivation s) (term s (guess s)) (guessed s name) fresh-guess
         (ran (verifying s) (c .present)) out-of-reach (undoes-none (verifying s) (c .kept))
         _ (at-start-value (steps s) _ (lowest-known s 0 _ (omega arith) (way-found e) .1)) (sym verified-value ∙ sym z))
-    asked-wrong (some inverse-key) e k =
-        test-no (match? asymmetric _ _) (λ m.
-        verified-no-key (InKnowledge s) (InDerivation s) (term s (guess s)) (guessed s name) tried-wrong
-        (ran (verifying s) (c .present)) out-of-reach (undoes-none (verifying s) (c .kept)) (subst isKey verified-value (m .fits)))
+    asked-wrong (some inverse-key) e z =
+        denies _ (says-inverse _ _) .1 (λ (k, _).
+        verified-no-key (InKnowledge s) (InDerivation s) (term s (guess s)) (guessed s name) fresh-guess
+        (ran (verifying s) (c .present)) out-of-reach (undoes-none (verifying s) (c .kept)) (subst isKey verified-value k))
 
     pub wrong-signal : signal s name (bytesOf (program s)) ≡ 0
     wrong-signal = rw (signal-asks s name, asked-wrong (wayOf (wayAt s)) refl (c .secondWay))

@@ -7,7 +7,7 @@ use lib.ListN.{length, drop}
 use Rattle.base.specs.Grow.{listed}
 use Rattle.term.specs.Rule.{hasOne}
 use Rattle.submission.specs.Answer.{Answer, done, refused}
-use Rattle.submission.specs.Record.{entries, steps, ruleAt, pAt, qAt, conclusionAt, verifying, wayAt, companion}
+use Rattle.submission.specs.Record.{steps, ruleAt, pAt, qAt, conclusionAt, verifying, wayAt, companion}
 use Rattle.submission.specs.Claim.{Way, another-step, at-start, inverse-key, wayOf}
 use Rattle.derivation.specs.Register.{written, lowestOf}
 use Rattle.machine.specs.Program.{Instruction, Test, Program, bytesOf, programLength}

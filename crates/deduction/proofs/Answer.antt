@@ -8,7 +8,7 @@ use native.Mathlib.Omega.{arith}
 use lib.Dec.{ltb}
 use borrow.Author.Tests.{lt-ltb, le-ltb, ltb-true}
 use Rattle.base.proofs.Order.{lt-or-ge}
-use Rattle.base.proofs.Says.{denies, not-not-false}
+use Rattle.base.proofs.Says.{denies, same-test, not-not-false}
 use Rattle.term.specs.Term.{Term}
 use Rattle.term.specs.Step.{Deducible}
 use Rattle.term.proofs.Reach.{Reach, known, reach-iff, reach-reach}
@@ -16,18 +16,11 @@ use Rattle.term.proofs.Table.{Table, tables-agree}
 use Rattle.submission.specs.Answer.{done, refused, passes, failsIf, andThen}
 use Rattle.submission.specs.Contents.{Bytes}
 use Rattle.submission.specs.Check.{checks1to4}
-use Rattle.submission.specs.Record.{terms, entries, entryAt, recordAt, term, InKnowledge}
+use Rattle.submission.specs.Record.{terms, entryAt, recordAt, term, InKnowledge}
 use Rattle.submission.proofs.Answer.{then-passes, if-passes, answered-done}
 use Rattle.submission.proofs.Listed.{Listed, listed}
-use Rattle.deduction.specs.Deduce.{entryMarks, isDeducible, deducibleAnswer}
-use Rattle.deduction.proofs.Exact.{same-test, deducible-iff}
-
--- two submissions are alike in terms and knowledge
-pub record Alike (s s′ : List ℕ) : Type 0 where
-  pub same-terms : terms s ≡ terms s′
-  pub same-records : (n : ℕ) → n < terms s → recordAt s n ≡ recordAt s′ n
-  pub same-entries : entries s ≡ entries s′
-  pub same-knowledge : (i : ℕ) → i < entries s → entryAt s i ≡ entryAt s′ i
+use Rattle.deduction.specs.Deduce.{entryMarks, isDeducible, deducibleAnswer, Alike}
+use Rattle.deduction.proofs.Exact.{deducible-iff}
 
 alike-sym : {s s′ : List ℕ} → Alike s s′ → Alike s′ s
 alike-sym a = record {
@@ -66,17 +59,6 @@ above-answer : (s : List ℕ) (n : ℕ) → checks1to4 s ≡ passes → terms s 
 unfolding deducibleAnswer
 above-answer s n e l = rw (e, le-ltb n (terms s) l)
 
--- "The answer is the same for two submissions alike in terms and knowledge that both pass checks 1 to 4."
-pub same-deducible : (s s′ : List ℕ) → Bytes s → Bytes s′ → checks1to4 s ≡ passes → checks1to4 s′ ≡ passes → Alike s s′ →
-    (n : ℕ) → deducibleAnswer s n ≡ deducibleAnswer s′ n
-same-deducible s s′ b b′ e e′ a n =
-    ⊎-elim
-    (λ l. below-answer s n e l ∙ ap (λ x. done (cond x 1 0)) (same-answer (listed s b e) (listed s′ b′ e′) a n l)
-    ∙ sym (below-answer s′ n e′ (omega (arith, a .same-terms))))
-    (λ l. above-answer s n e l ∙ sym (above-answer s′ n e′ (omega (arith, a .same-terms))))
-    (lt-or-ge n (terms s))
-
--- yes is answered exactly where the checks pass and a finite list of steps reaches the term, no exactly where they pass and none does
 passes-iff : (s : List ℕ) (n : ℕ) → (andThen (checks1to4 s) (failsIf (not (ltb n (terms s))) 12 0) ≡ passes) ↔ ((checks1to4 s ≡ passes) × (n < terms s))
 passes-iff s n =
     let (f, g) = then-passes (checks1to4 s) (failsIf (not (ltb n (terms s))) 12 0) in
@@ -103,8 +85,21 @@ module _ (s : List ℕ) (bytes : Bytes s) (n : ℕ) where
         λ (k, l, b). q (y (k, l), g (h (listed s bytes k) l .1 b)),
       )
 
-  pub yes-exact : (deducibleAnswer s n ≡ done 1) ↔ ((checks1to4 s ≡ passes) × (n < terms s) × Deducible (InKnowledge s) (term s n))
-  yes-exact = exact-where 1 (cond-one _) (λ z l. deducible-iff z n l)
+-- ---- Demand 2, deducible
+-- "A term is deducible if a finite list of such steps reaches it from the knowledge alone, over all terms, not only those listed."
+-- Where checks 1 to 4 pass and the number is below T, the answer is 1 exactly when such a list reaches the term, and 0 when none does.
+pub yes-exact : (s : List ℕ) → Bytes s → (n : ℕ) → (deducibleAnswer s n ≡ done 1) ↔ ((checks1to4 s ≡ passes) × (n < terms s) × Deducible (InKnowledge s) (term s n))
+yes-exact s b n = exact-where s b n 1 (cond-one _) (λ z l. deducible-iff z n l)
 
-  pub no-exact : (deducibleAnswer s n ≡ done 0) ↔ ((checks1to4 s ≡ passes) × (n < terms s) × (Deducible (InKnowledge s) (term s n) → ⊥))
-  no-exact = exact-where 0 (cond-zero _) (λ z l. denies _ (deducible-iff z n l))
+pub no-exact : (s : List ℕ) → Bytes s → (n : ℕ) → (deducibleAnswer s n ≡ done 0) ↔ ((checks1to4 s ≡ passes) × (n < terms s) × (Deducible (InKnowledge s) (term s n) → ⊥))
+no-exact s b n = exact-where s b n 0 (cond-zero _) (λ z l. denies _ (deducible-iff z n l))
+
+-- "The answer is the same for two submissions alike in terms and knowledge that both pass checks 1 to 4."
+pub same-deducible : (s s′ : List ℕ) → Bytes s → Bytes s′ → checks1to4 s ≡ passes → checks1to4 s′ ≡ passes → Alike s s′ →
+    (n : ℕ) → deducibleAnswer s n ≡ deducibleAnswer s′ n
+same-deducible s s′ b b′ e e′ a n =
+    ⊎-elim
+    (λ l. below-answer s n e l ∙ ap (λ x. done (cond x 1 0)) (same-answer (listed s b e) (listed s′ b′ e′) a n l)
+    ∙ sym (below-answer s′ n e′ (omega (arith, a .same-terms))))
+    (λ l. above-answer s n e l ∙ sym (above-answer s′ n e′ (omega (arith, a .same-terms))))
+    (lt-or-ge n (terms s))

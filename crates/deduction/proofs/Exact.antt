@@ -8,15 +8,14 @@ use lib.Dec.{eqb}
 use lib.ListN.{length}
 use borrow.Author.Tests.{eq-eqb}
 use Rattle.base.specs.Grow.{listed}
-use Rattle.base.proofs.Says.{Says, says-eqb, says-and, says-or, says-any, says-true}
+use Rattle.base.proofs.Says.{Says, says-eqb, says-and, says-or, says-any, says-true, same-test}
 use Rattle.base.proofs.Bools.{or-left, or-right, and-both}
 use Rattle.base.proofs.Grow.{length-listed, listed-at}
-use Rattle.term.specs.Term.{Cipher, symmetric, asymmetric, Side, left, right, pair, part, encrypt, decrypt, Term, Match}
-use Rattle.term.specs.Reduce.{pick}
+use Rattle.term.specs.Term.{Cipher, symmetric, asymmetric, left, right, Head, pair, part, encrypt, decrypt, Term, node, Match}
 use Rattle.term.specs.Step.{Deducible}
 use Rattle.term.specs.Table.{Rec, leaf, branch}
 use Rattle.term.proofs.Reduce.{picked, match-sym, key-is-atom}
-use Rattle.term.proofs.Reach.{Reach, known, stepped, reach-iff}
+use Rattle.term.proofs.Reach.{Reach, known, reach-part, reach-opened, reach-iff}
 use Rattle.term.proofs.Built.{Built, Analysed, built-reach, built-atom, reach-is-built}
 use Rattle.term.proofs.Table.{branch-of, node-of, part-below}
 use Rattle.term.proofs.Marks.{rounds-keep, rounds-sound, rounds-closed}
@@ -24,12 +23,6 @@ use Rattle.submission.specs.Record.{terms, entries, entryAt, recordAt, areInver
 use Rattle.submission.proofs.Listed.{Listed}
 use Rattle.deduction.specs.Deduce.{at, built, opens, gives, taken, round, isEntry, entryMarks, rounds, isDeducible}
 use Rattle.deduction.proofs.BuildTest.{Marked, says-built}
-
--- two tests that say the same are equal
-pub same-test : {P : Type 0} (a b : Bool) → Says a P → Says b P → a ≡ b
-same-test true b p q = sym (q .1 (p .0 refl))
-same-test false true p q = p .1 (q .0 refl)
-same-test false false p q = refl
 
 -- ---- taking apart
 module _ {s : List ℕ} (z : Listed s) (m : List Bool) where
@@ -46,27 +39,24 @@ module _ {s : List ℕ} (z : Listed s) (m : List Bool) where
             w .1 (n, o, (subst (Match asymmetric (term s k)) g u, subst (Built (Marked s m)) g x)),
       )
 
-  -- what is taken from a marked record is a term, and reached where the marked ones are
+  -- what is taken from a reached term is listed, and reached where the marked ones are
   pub gives-reached : {K : Term → Type 0} → ((n : ℕ) → n < terms s → at m n ≡ true → Reach K (term s n)) →
-      (i n : ℕ) → i < terms s → at m i ≡ true → gives s m (recordAt s i) n ≡ true → (n < terms s) × Reach K (term s n)
-  gives-reached {K} f i n l e = go (recordAt s i) refl
+      (i n : ℕ) → i < terms s → Reach K (term s i) → gives s m (recordAt s i) n ≡ true → (n < terms s) × Reach K (term s n)
+  gives-reached {K} f i n l at-i = go (recordAt s i) refl
     where
-      at-i : Reach K (term s i)
-      at-i = f i l e
-
-      side : (x y : ℕ) → recordAt s i ≡ branch pair x y → (j : Side) → Reach K (pick j (term s x) (term s y))
-      side x y r j = stepped (part j) (term s i) (term s i) ((term s x, term s y, node-of (z .table) i l r, refl), refl) at-i at-i
+      whole : {h : Head} {x y : ℕ} → recordAt s i ≡ branch h x y → Reach K (node h (term s x) (term s y))
+      whole r = subst (Reach K) (node-of (z .table) i l r) at-i
 
       go : (r : Rec) → recordAt s i ≡ r → gives s m r n ≡ true → (n < terms s) × Reach K (term s n)
       go (leaf κ x) r g = absurd (false≢true g)
       go (branch pair x y) r g =
           let (a, b) = part-below (z .table) i l r in
-          ⊎-elim (λ q. rw q (a, side x y r left)) (λ q. rw q (b, side x y r right)) (says-or (eqb n x) (eqb n y) (says-eqb n x) (says-eqb n y) .0 g)
+          ⊎-elim (λ q. rw q (a, reach-part left (whole r))) (λ q. rw q (b, reach-part right (whole r))) (says-or (eqb n x) (eqb n y) (says-eqb n x) (says-eqb n y) .0 g)
       go (branch (part j) x y) r g = absurd (false≢true g)
       go (branch (encrypt c) x k) r g =
           let (a, b) = part-below (z .table) i l r in
           let (q, (j, u, o)) = says-and (eqb n x) (opens c s m k) (says-eqb n x) (says-opens c k b) .0 g in
-          rw q (a, stepped (decrypt c) (term s i) j (term s k, node-of (z .table) i l r, u) at-i (built-reach (λ t (v, d, (p, w)). rw w (f v d p)) o))
+          rw q (a, reach-opened c (whole r) u (built-reach (λ t (v, d, (p, w)). rw w (f v d p)) o))
       go (branch (decrypt c) x y) r g = absurd (false≢true g)
 
 -- ---- marks that are as they should be when nothing more is to be marked
@@ -132,7 +122,7 @@ module _ {s : List ℕ} (z : Listed s) where
         (marks-first s (entryAt s r) (z .entry-below r l) ∙ says-entry s (entryAt s r) .1 (r, l, refl));
     reached = rounds-sound (terms s) (taken s) (marks s) (marks-length s) (marks-next s) (λ n. Reach (InKnowledge s) (term s n))
         (λ n l e. let (r, o, q) = says-entry s n .0 (sym (marks-first s n l) ∙ e) in known (r, o, ap (term s) (sym q)))
-        (λ m f n l e. let (i, o, (p, g)) = says-taken s m n .0 e in gives-reached z m f i n o p g .1) (terms s);
+        (λ m f n l e. let (i, o, (p, g)) = says-taken s m n .0 e in gives-reached z m f i n o (f i o p) g .1) (terms s);
     closed = λ i n o l p g. rounds-closed (terms s) (taken s) (marks s) (marks-length s) (marks-next s) n l (says-taken s _ n .1 (i, o, (p, g)));
   }
 

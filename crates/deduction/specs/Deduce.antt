@@ -1,14 +1,15 @@
 -- Deducible as a computed answer: document 01, 'Dolev-Yao steps' and row 12 of 'Verdicts'.
 -- Terms are first taken apart, as far as the keys that can be built allow; a term is deducible when it can be built from what that reaches.
 -- That this is what finite lists of steps reach is a theorem of this crate.
-use mathlib.Core.Bool.{Bool, true, false, _&&_, _||_, not, cond}
+use mathlib.Core.Path.{_≡_}
+use mathlib.Core.Bool.{Bool, false, _&&_, _||_, not, cond}
 use mathlib.Core.List.{List}
-use Prim.Native.Nat.{ℕ, zero, suc}
+use Prim.Native.Nat.{ℕ, zero, suc, _<_}
 use lib.Dec.{eqb, ltb}
 use lib.ListN.{getD}
 use Rattle.base.specs.First.{any}
 use Rattle.base.specs.Grow.{listed}
-use Rattle.term.specs.Term.{Cipher, symmetric, asymmetric, Head, pair, part, encrypt, decrypt}
+use Rattle.term.specs.Term.{Cipher, symmetric, asymmetric, pair, part, encrypt, decrypt}
 use Rattle.term.specs.Table.{Rec, leaf, branch}
 use Rattle.submission.specs.Answer.{Answer, done, failsIf, andThen, answered}
 use Rattle.submission.specs.Record.{terms, entries, entryAt, recordAt, areInverse}
@@ -71,3 +72,10 @@ isDeducible s m n = built s (rounds s m (terms s)) n
 unfoldable pub deducibleAnswer : List ℕ → ℕ → Answer
 deducibleAnswer s n =
     answered (andThen (checks1to4 s) (failsIf (not (ltb n (terms s))) 12 0)) (done (cond (isDeducible s (entryMarks s) n) 1 0))
+
+-- "The answer is the same for two submissions alike in terms and knowledge that both pass checks 1 to 4.": they are alike
+pub record Alike (s s′ : List ℕ) : Type 0 where
+  pub same-terms : terms s ≡ terms s′
+  pub same-records : (n : ℕ) → n < terms s → recordAt s n ≡ recordAt s′ n
+  pub same-entries : entries s ≡ entries s′
+  pub same-knowledge : (i : ℕ) → i < entries s → entryAt s i ≡ entryAt s′ i

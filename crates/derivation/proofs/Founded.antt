@@ -12,31 +12,20 @@ use Rattle.term.specs.Reduce.{pick}
 use Rattle.term.specs.Step.{Step}
 use Rattle.term.specs.Rule.{rules, headOf, hasOne}
 use Rattle.submission.specs.Answer.{passes}
-use Rattle.submission.specs.Record.{terms, steps, kindAt, xAt, yAt, ruleAt, pAt, qAt, conclusionAt, compound, term}
+use Rattle.submission.specs.Record.{terms, steps, kindAt, xAt, yAt, ruleAt, pAt, qAt, conclusionAt, compound, kindOf, term}
 use Rattle.submission.proofs.Answer.{fails-not-passes}
-use Rattle.submission.proofs.Shape.{kindFor, Listable}
+use Rattle.submission.proofs.Shape.{Listable}
 use Rattle.submission.proofs.Listed.{Listed, compound-term}
-use Rattle.derivation.specs.Step.{secondAt, kindOf, isRecord, partAt, opensWith, follows, badStep, unfounded, stepFault, checkSteps}
+use Rattle.derivation.specs.Step.{secondAt, isRecord, partAt, opensWith, follows, badStep, unfounded, stepFault, checkSteps}
 use Rattle.derivation.proofs.Register.{KnownNumber, says-known}
 
 -- ---- check 6
-kind-for : (h : Head) → kindOf h ≡ kindFor (compound h)
-kind-for pair = refl
-kind-for (part i) = refl
-kind-for (encrypt symmetric) = refl
-kind-for (encrypt asymmetric) = refl
-kind-for (decrypt c) = refl
-
 module _ {s : List ℕ} (z : Listed s) where
-  -- a record of a head's kind, and one over these parts
-  compound-at : (h : Head) (n : ℕ) → Listable (compound h) → n < terms s → kindAt s n ≡ kindOf h →
-      (xAt s n < terms s) × (yAt s n < terms s) × (term s n ≡ node h (term s (xAt s n)) (term s (yAt s n)))
-  compound-at h n f l e = compound-term z n h f l (e ∙ kind-for h)
-
-  record-at : (h : Head) (p q n : ℕ) → Listable (compound h) → n < terms s → isRecord s n (kindOf h) p q ≡ true → term s n ≡ node h (term s p) (term s q)
+  -- a record of a head over these parts
+  record-at : (h : Head) (p q n : ℕ) → Listable (compound h) → n < terms s → isRecord s n (kindOf (compound h)) p q ≡ true → term s n ≡ node h (term s p) (term s q)
   record-at h p q n f l e =
       let u = says-and _ _ (says-eqb (kindAt s n) _) (says-and _ _ (says-eqb (xAt s n) p) (says-eqb (yAt s n) q)) .0 e in
-      compound-at h n f l (u .0) .2 ∙ ap₂ (λ a b. node h (term s a) (term s b)) (u .1 .0) (u .1 .1)
+      compound-term z n h f l (u .0) .2 ∙ ap₂ (λ a b. node h (term s a) (term s b)) (u .1 .0) (u .1 .1)
 
   part-term : (i : Side) (n : ℕ) → term s (partAt i s n) ≡ pick i (term s (xAt s n)) (term s (yAt s n))
   part-term left n = refl
@@ -51,13 +40,13 @@ module _ {s : List ℕ} (z : Listed s) where
   follows-step pair p q c lp lq lc e = record-at pair p q c tt lc e
   follows-step (part i) p q c lp lq lc e =
       let u = says-and _ _ (says-eqb (kindAt s p) _) (says-and _ _ (says-eqb (partAt i s p) c) (says-eqb q 0)) .0 e in
-      ((term s (xAt s p), term s (yAt s p), compound-at pair p tt lp (u .0) .2, ap (term s) (sym (u .1 .0)) ∙ part-term i p), refl)
+      ((term s (xAt s p), term s (yAt s p), compound-term z p pair tt lp (u .0) .2, ap (term s) (sym (u .1 .0)) ∙ part-term i p), refl)
   follows-step (encrypt k) p q c lp lq lc e =
       let w = record-at (encrypt k) p q c tt lc e in
       (subst Message w (z .messages c lc) .0, w)
   follows-step (decrypt k) p q c lp lq lc e =
       let u = says-and _ _ (says-eqb (kindAt s p) _) (says-and _ _ (says-eqb (xAt s p) c) (says-true (opensWith k s (yAt s p) q))) .0 e in
-      let w = compound-at (encrypt k) p tt lp (u .0) in
+      let w = compound-term z p (encrypt k) tt lp (u .0) in
       (term s (yAt s p), w .2 ∙ ap (λ x. node (encrypt k) (term s x) (term s (yAt s p))) (u .1 .0), opened k (yAt s p) q (w .1) lq (u .1 .1))
 
 -- a step that passes check 6

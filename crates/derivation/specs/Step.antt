@@ -1,5 +1,5 @@
 -- Steps, and checks 6 and 7: document 01, 'Dolev-Yao steps' and 'Verdicts'.
-use mathlib.Core.Bool.{Bool, true, false, _&&_, _||_, not, cond}
+use mathlib.Core.Bool.{Bool, _&&_, _||_, not, cond}
 use mathlib.Core.List.{List}
 use mathlib.Core.Option.{Option, none, some}
 use Prim.Native.Nat.{ℕ}
@@ -8,20 +8,12 @@ use Rattle.base.specs.First.{first}
 use Rattle.term.specs.Term.{Cipher, symmetric, asymmetric, Side, left, right, Head, pair, part, encrypt, decrypt}
 use Rattle.term.specs.Rule.{isRule, headOf, hasOne}
 use Rattle.submission.specs.Answer.{Check, passes, fails}
-use Rattle.submission.specs.Record.{terms, steps, kindAt, xAt, yAt, ruleAt, pAt, qAt, conclusionAt, areInverse}
+use Rattle.submission.specs.Record.{terms, steps, kindAt, xAt, yAt, ruleAt, pAt, qAt, conclusionAt, compound, kindOf, areInverse}
 use Rattle.derivation.specs.Register.{isKnown}
 
 -- the second premise; the one premise of rules 1 and 2 counts as both
 unfoldable pub secondAt : List ℕ → ℕ → ℕ
 secondAt s i = cond (hasOne (ruleAt s i)) (pAt s i) (qAt s i)
-
--- the kind of the record that a head builds: "4 pair(x, y); 5 enc(x, y) ..; 6 enca(x, y)"
-abbrev pub kindOf : Head → ℕ
-kindOf pair = 4
-kindOf (part i) = 0
-kindOf (encrypt symmetric) = 5
-kindOf (encrypt asymmetric) = 6
-kindOf (decrypt c) = 0
 
 abbrev pub isRecord : List ℕ → ℕ → ℕ → ℕ → ℕ → Bool
 isRecord s n kind x y = eqb (kindAt s n) kind && (eqb (xAt s n) x && eqb (yAt s n) y)
@@ -37,10 +29,10 @@ opensWith asymmetric s k q = areInverse s k q
 
 -- The table of steps, of term numbers: the rule of this head concludes c from p and q.
 abbrev pub follows : List ℕ → Head → ℕ → ℕ → ℕ → Bool
-follows s pair p q c = isRecord s c (kindOf pair) p q
-follows s (part i) p q c = eqb (kindAt s p) (kindOf pair) && (eqb (partAt i s p) c && eqb q 0)
-follows s (encrypt k) p q c = isRecord s c (kindOf (encrypt k)) p q
-follows s (decrypt k) p q c = eqb (kindAt s p) (kindOf (encrypt k)) && (eqb (xAt s p) c && opensWith k s (yAt s p) q)
+follows s pair p q c = isRecord s c (kindOf (compound pair)) p q
+follows s (part i) p q c = eqb (kindAt s p) (kindOf (compound pair)) && (eqb (partAt i s p) c && eqb q 0)
+follows s (encrypt k) p q c = isRecord s c (kindOf (compound (encrypt k))) p q
+follows s (decrypt k) p q c = eqb (kindAt s p) (kindOf (compound (encrypt k))) && (eqb (xAt s p) c && opensWith k s (yAt s p) q)
 
 -- 6 step: "rule, number or shape wrong"
 unfoldable pub badStep : List ℕ → ℕ → Bool

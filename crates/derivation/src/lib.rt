@@ -1,1 +1,253 @@
 // The steps of a derivation: checks 6 and 7, and the registers that hold their terms.
+// Promises: every function is total, and its answer is what the definitions of specs/ give.
+use submission::Stage;
+use submission::Term;
+ghost use mathlib.Core.Path.{_≡_};
+ghost use mathlib.Core.Bool.{cond, _&&_};
+ghost use Prim.Native.Nat.{_+_, _<_};
+ghost use lib.Dec.{eqb};
+ghost use lib.ListN.{getD};
+ghost use Rattle.term.specs.Rule.{headOf, hasOne};
+ghost use Rattle.submission.specs.Contents.{Limited};
+ghost use Rattle.submission.specs.Record.{entries, areInverse};
+ghost use Rattle.submission.specs.Stage.{checkOf};
+ghost use Rattle.derivation.specs.Register.{written};
+ghost use Rattle.derivation.specs.Step.{follows as followsBy, badStep, unfounded};
+ghost use Rattle.derivation.specs.Code.{IsStep, Registered, Unused, Added, checkStep, StepsChecked};
+
+// A step's record.
+pub struct Step {
+    pub rule: u8,
+    pub p: u8,
+    pub q: u8,
+    pub conclusion: u8,
+}
+
+pub fn step_at(s: &[u8], i: u8) -> Step
+    ensures { λ r. ⌜ IsStep (now (s .entry)) i r ⌝ }
+{
+    let at = submission::derivation_start(s) + 4 * submission::wide(i);
+    Step {
+        rule: submission::byte(s, at),
+        p: submission::byte(s, at + 1),
+        q: submission::byte(s, at + 2),
+        conclusion: submission::byte(s, at + 3),
+    }
+}
+
+// Whether a rule has one premise.
+pub fn has_one(rule: u8) -> bool
+    ensures { λ r. ⌜ r ≡ hasOne rule ⌝ }
+{
+    if rule == 1 {
+        return true;
+    }
+    rule == 2
+}
+
+// The second premise; one premise counts as both.
+pub fn second_of(step: Step) -> u8
+    ensures { λ r. ⌜ r ≡ cond (hasOne (step .rule)) (step .p) (step .q) ⌝ }
+{
+    let rule = step.rule;
+    if has_one(rule) {
+        return step.p;
+    }
+    step.q
+}
+
+// Whether t is the record of this kind over x and y.
+fn is_record(t: Term, kind: u8, x: u8, y: u8) -> bool
+    ensures { λ r. ⌜ r ≡ (eqb (t .kind) kind && (eqb (t .x) x && eqb (t .y) y)) ⌝ }
+{
+    if t.kind != kind {
+        return false;
+    }
+    if t.x != x {
+        return false;
+    }
+    t.y == y
+}
+
+// Whether this part of the pair t is what the step concludes, from t alone.
+fn is_part(t: Term, part: u8, step: Step) -> bool
+    ensures { λ r. ⌜ r ≡ (eqb (t .kind) 4 && (eqb part (step .conclusion) && eqb (step .q) 0)) ⌝ }
+{
+    if t.kind != 4 {
+        return false;
+    }
+    if part != step.conclusion {
+        return false;
+    }
+    step.q == 0
+}
+
+// Whether the step opens t, an enca, with the inverse of its key.
+fn is_opened(s: &[u8], t: Term, step: Step) -> bool
+    ensures { λ r. ⌜ r ≡ (eqb (t .kind) 6 && (eqb (t .x) (step .conclusion) && areInverse (now (s .entry)) (t .y) (step .q))) ⌝ }
+{
+    if t.kind != 6 {
+        return false;
+    }
+    if t.x != step.conclusion {
+        return false;
+    }
+    submission::are_inverse(s, t.y, step.q)
+}
+
+// Whether the step's conclusion follows from its premises by its rule, one of 0 to 6.
+fn follows(s: &[u8], step: Step) -> bool
+    requires { ⌜ step .rule < 7 ⌝ }
+    ensures { λ r. ⌜ r ≡ followsBy (now (s .entry)) (headOf (step .rule)) (step .p) (step .q) (step .conclusion) ⌝ }
+{
+    let from = submission::term_at(s, step.p);
+    let to = submission::term_at(s, step.conclusion);
+    let rule = step.rule;
+    match rule {
+        0 => is_record(to, 4, step.p, step.q),
+        1 => is_part(from, from.x, step),
+        2 => is_part(from, from.y, step),
+        3 => is_record(to, 5, step.p, step.q),
+        4 => is_record(from, 5, step.conclusion, step.q),
+        5 => is_record(to, 6, step.p, step.q),
+        _ => is_opened(s, from, step),
+    }
+}
+
+// Check 6 of step i: a rule, a number or the shape is wrong.
+fn is_step_bad(s: &[u8], i: u8) -> bool
+    ensures { λ r. ⌜ r ≡ badStep (now (s .entry)) i ⌝ }
+{
+    let step = step_at(s, i);
+    let terms = submission::terms(s);
+    if 7 <= step.rule {
+        return true;
+    }
+    if terms <= step.p {
+        return true;
+    }
+    if terms <= step.q {
+        return true;
+    }
+    if terms <= step.conclusion {
+        return true;
+    }
+    !follows(s, step)
+}
+
+// The lowest register of each term by its number, 255 for none, and the count of registers in use.
+pub struct Registers {
+    pub first: [u8; 256],
+    pub used: u8,
+}
+
+impl Registers {
+    pub fn new() -> Self
+        ensures { λ r. ⌜ Unused r ⌝ }
+    {
+        Registers {
+            first: [255u8; 256],
+            used: 0,
+        }
+    }
+
+    // The next register holds term t.
+    pub fn with(self, t: u8) -> Self
+        requires { ⌜ self .used < 255 ⌝ }
+        ensures { λ r. ⌜ Added self t r ⌝ }
+    {
+        let mut r = self;
+        let used = r.used;
+        let i = submission::wide(t);
+        r.used = used + 1;
+        if r.first[i] != 255 {
+            return r;
+        }
+        r.first[i] = used;
+        r
+    }
+
+    // The lowest register of t, or 255.
+    pub fn lowest(self, t: u8) -> u8
+        ensures { λ r. ⌜ r ≡ getD (self .first) t 0 ⌝ }
+    {
+        let i = submission::wide(t);
+        self.first[i]
+    }
+}
+
+// The registers of the knowledge, then the guess's.
+pub fn initial(s: &[u8]) -> Registers
+    requires { ⌜ Limited (now s) ⌝ }
+    ensures { λ r. ⌜ Registered (now (s .entry)) (entries (now (s .entry)) + 1) r ⌝ }
+{
+    let mut r = Registers::new();
+    let n = submission::entries(s);
+    for i in 0..n {
+        r = r.with(submission::entry_at(s, i));
+    }
+    let claim = submission::claim_of(s);
+    r.with(claim.guess)
+}
+
+// Check 7 of step i, with the registers written before it: a premise is in none of them.
+fn is_unfounded(s: &[u8], before: Registers, i: u8) -> bool
+    requires { ⌜ Registered (now s) (written (now s) i) before ⌝ }
+    ensures { λ r. ⌜ r ≡ unfounded (now (s .entry)) i ⌝ }
+{
+    let step = step_at(s, i);
+    if before.lowest(step.p) == 255 {
+        return true;
+    }
+    before.lowest(second_of(step)) == 255
+}
+
+// Check 6 of step i, then its check 7.
+fn check_step(s: &[u8], before: Registers, i: u8) -> Stage
+    requires { ⌜ Registered (now s) (written (now s) i) before ⌝ }
+    ensures { λ r. ⌜ checkOf r ≡ checkStep (now (s .entry)) i ⌝ }
+{
+    if is_step_bad(s, i) {
+        return Stage::Refused {
+            number: 6,
+            place: submission::wide16(i),
+        };
+    }
+    if is_unfounded(s, before, i) {
+        return Stage::Refused {
+            number: 7,
+            place: submission::wide16(i),
+        };
+    }
+    Stage::Passed
+}
+
+// What checks 6 and 7 answer, with the registers after the last step that passed.
+pub struct Checked {
+    pub registers: Registers,
+    pub stage: Stage,
+}
+
+// Checks 6 and 7, tried together, step by step.
+pub fn check_steps(s: &[u8]) -> Checked
+    requires { ⌜ Limited (now s) ⌝ }
+    ensures { λ r. ⌜ StepsChecked (now (s .entry)) r ⌝ }
+{
+    let mut r = initial(s);
+    let n = submission::steps(s);
+    for i in 0..n {
+        let stage = check_step(s, r, i);
+        let Stage::Passed = stage else {
+            return Checked {
+                registers: r,
+                stage,
+            };
+        };
+        let step = step_at(s, i);
+        r = r.with(step.conclusion);
+    }
+    Checked {
+        registers: r,
+        stage: Stage::Passed,
+    }
+}

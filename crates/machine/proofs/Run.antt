@@ -1,16 +1,22 @@
--- The registers of a run: what each holds at the start, what an instruction writes, and that a register keeps its value.
+-- The registers of a run: what each holds at the start, what an instruction writes, that a register keeps its value; and what the tests say.
 use mathlib.Core.Path.{_≡_, _∙_}
+use mathlib.Core.Logic.{Iff·trans}
 use mathlib.Core.List.{List, [], _∷_}
+use mathlib.Core.Option.{some}
 use Prim.Native.Nat.{ℕ, _+_, _≤_, _<_}
 use native.Mathlib.Omega.{arith}
 use lib.ListN.{length, getD, length-append, List·getD-append}
 use lib.Seq.{getD-at}
 use Rattle.base.proofs.Grow.{grow-kept, grow-at, length-listed, listed-at}
+use Rattle.base.proofs.Says.{Says}
 use Rattle.base.specs.Grow.{grow, listed}
+use Rattle.term.specs.Term.{asymmetric, Term, term?, isKey, inverse as inverse-of}
+use Rattle.term.specs.Reduce.{match?}
 use Rattle.term.specs.Table.{void}
+use Rattle.term.proofs.Reduce.{says-test}
 use Rattle.submission.specs.Record.{entries, entryAt, term}
-use Rattle.machine.specs.Program.{instructionAt}
-use Rattle.machine.specs.Run.{guessed, initial, executed, registers}
+use Rattle.machine.specs.Program.{equal, inverse, instructionAt}
+use Rattle.machine.specs.Run.{guessed, initial, executed, registers, holds}
 
 module _ (s : List ℕ) (name : ℕ) where
   length-initial : length (initial s name) ≡ entries s + 1
@@ -44,3 +50,10 @@ module _ (s : List ℕ) (name : ℕ) where
     register-guess n =
         register-kept 0 n (entries s) (omega arith) (omega arith)
         ∙ getD-at (listed (λ i. term s (entryAt s i)) (entries s)) (guessed s name) [] void (entries s) (length-listed (λ i. term s (entryAt s i)) (entries s))
+
+-- "`=` signals 1 for equal terms, `i` when the first is a key and the second its inverse, else 0"
+pub says-equal : (a b : Term) → Says (holds (some equal) a b) (b ≡ a)
+says-equal a b = says-test (term? b a)
+
+pub says-inverse : (a b : Term) → Says (holds (some inverse) a b) (isKey a × (b ≡ inverse-of a))
+says-inverse a b = Iff·trans (says-test (match? asymmetric a b)) (λ m. (m .fits, m .turned), λ (f, e). record { fits = f; turned = e })

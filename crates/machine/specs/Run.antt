@@ -1,5 +1,5 @@
 -- The machine: document 01, 'Machine'. "Run takes a submission, a 16-bit name and a program."
-use mathlib.Core.Bool.{Bool, true, false, cond}
+use mathlib.Core.Bool.{Bool, false, cond}
 use mathlib.Core.List.{List, [], _∷_, _++_}
 use mathlib.Core.Option.{Option, none, some}
 use Prim.Native.Nat.{ℕ}

@@ -1,6 +1,6 @@
 -- Inverse keys, read off two records one test at a time.
 use mathlib.Core.Path.{_≡_}
-use mathlib.Core.Bool.{Bool, true, false, and-true, and-false, or-false}
+use mathlib.Core.Bool.{false, and-true, and-false, or-false}
 use mathlib.Core.List.{List}
 use Prim.Native.Nat.{ℕ}
 use lib.Dec.{eqb}

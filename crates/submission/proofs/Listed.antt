@@ -16,11 +16,11 @@ use Rattle.term.specs.Table.{branch, message}
 use Rattle.term.proofs.Table.{Below, Table, decode-inj, decoded-reads}
 use Rattle.submission.specs.Answer.{passes}
 use Rattle.submission.specs.Contents.{Bytes, badCount, check1, check2}
-use Rattle.submission.specs.Record.{terms, entries, steps, kindAt, xAt, yAt, nameAt, entryAt, guess, verifying, wayAt, companion, Shape, atomic, compound, shapeOf, takes, isAtomic, recordOf, recordAt, term, inverseKinds, areInverse}
+use Rattle.submission.specs.Record.{terms, entries, steps, kindAt, xAt, yAt, nameAt, entryAt, guess, verifying, wayAt, companion, Shape, atomic, compound, shapeOf, kindOf, takes, isAtomic, recordOf, recordAt, term, inverseKinds, areInverse}
 use Rattle.submission.specs.Claim.{Way, another-step, at-start, inverse-key, wayOf, companionFits}
 use Rattle.submission.specs.Check.{badTerm, check3, badKnowledge, check4, goodClaim, check5, checks1to4, checks1to5}
 use Rattle.submission.proofs.Answer.{if-passes, at-passes, then-passes}
-use Rattle.submission.proofs.Shape.{kindFor, shape-kind, Listable, kind-shape, Shaped, Good, good, name-bytes, same-record}
+use Rattle.submission.proofs.Shape.{shape-kind, Listable, kind-shape, Shaped, Good, good, name-bytes, same-record}
 
 -- the kinds of keys, and those of a key and its inverse
 abbrev Key : Kind → Type 0
@@ -37,7 +37,7 @@ named-key public n k = k
 named-key private n k = k
 
 abbrev KindPair : ℕ → ℕ → Type 0
-KindPair k j = (κ : Kind) × Key κ × (k ≡ kindFor (atomic κ)) × (j ≡ kindFor (atomic (otherKind κ)))
+KindPair k j = (κ : Kind) × Key κ × (k ≡ kindOf (atomic κ)) × (j ≡ kindOf (atomic (otherKind κ)))
 
 says-kinds : (k j : ℕ) → Says (inverseKinds k j) (KindPair k j)
 says-kinds k j = (
@@ -46,7 +46,7 @@ says-kinds k j = (
   λ (κ, y, a, b). back κ y a b,
 )
   where
-    back : (κ : Kind) → Key κ → k ≡ kindFor (atomic κ) → j ≡ kindFor (atomic (otherKind κ)) → inverseKinds k j ≡ true
+    back : (κ : Kind) → Key κ → k ≡ kindOf (atomic κ) → j ≡ kindOf (atomic (otherKind κ)) → inverseKinds k j ≡ true
     back plain y a b = absurd y
     back public y a b = rw (a, b)
     back private y a b = rw (a, b)
@@ -69,7 +69,7 @@ module _ (s : List ℕ) (bytes : Bytes s) (all : (i : ℕ) → i < terms s → G
       let h = all j m in
       let (p, x, y) = same-record (g .shape) (h .shape) _ _ _ _ _ _ (name-bytes (bytes _) (bytes _) (bytes _) (bytes _))
       (sym (record-at s i (g .shape) (g .has)) ∙ e ∙ record-at s j (h .shape) (h .has)) in
-      let k : kindAt s i ≡ kindAt s j = shape-kind _ _ (g .has) ∙ ap kindFor p ∙ sym (shape-kind _ _ (h .has)) in
+      let k : kindAt s i ≡ kindAt s j = shape-kind _ _ (g .has) ∙ ap kindOf p ∙ sym (shape-kind _ _ (h .has)) in
       ⊎-elim (λ a. absurd (h .new i a k x y)) (λ a. ⊎-elim (λ b. absurd (g .new j b (sym k) (sym x) (sym y))) (λ b. omega arith) (lt-or-ge j i)) (lt-or-ge i j)
 
   table-at : Table (recordAt s) (terms s) (term s)
@@ -81,18 +81,18 @@ module _ (s : List ℕ) (bytes : Bytes s) (all : (i : ℕ) → i < terms s → G
   term-at : (i : ℕ) (z : Shape) → i < terms s → shapeOf (kindAt s i) ≡ some z → term s i ≡ message (term s) (recordOf (some z) (nameAt s i) (xAt s i) (yAt s i))
   term-at i z l e = t .reads i l ∙ ap (message (term s)) (record-at s i z e)
 
-  term-of-kind : (i : ℕ) (z : Shape) → Listable z → i < terms s → kindAt s i ≡ kindFor z → term s i ≡ message (term s) (recordOf (some z) (nameAt s i) (xAt s i) (yAt s i))
+  term-of-kind : (i : ℕ) (z : Shape) → Listable z → i < terms s → kindAt s i ≡ kindOf z → term s i ≡ message (term s) (recordOf (some z) (nameAt s i) (xAt s i) (yAt s i))
   term-of-kind i z f l e = term-at i z l (ap shapeOf e ∙ kind-shape z f)
 
   -- the kind and the name of an atom
-  atom-of : (i : ℕ) (κ : Kind) (n : ℕ) → i < terms s → term s i ≡ atom κ n → (kindAt s i ≡ kindFor (atomic κ)) × (nameAt s i ≡ n)
+  atom-of : (i : ℕ) (κ : Kind) (n : ℕ) → i < terms s → term s i ≡ atom κ n → (kindAt s i ≡ kindOf (atomic κ)) × (nameAt s i ≡ n)
   atom-of i κ n l e = go (all i l .shape) (all i l .has)
     where
-      go : (z : Shape) → shapeOf (kindAt s i) ≡ some z → (kindAt s i ≡ kindFor (atomic κ)) × (nameAt s i ≡ n)
+      go : (z : Shape) → shapeOf (kindAt s i) ≡ some z → (kindAt s i ≡ kindOf (atomic κ)) × (nameAt s i ≡ n)
       go (atomic κ′) h =
           let u = sym (term-at i (atomic κ′) l h) ∙ e in
           let p : κ′ ≡ κ = cc in
-          (shape-kind _ _ h ∙ ap (λ k. kindFor (atomic k)) p, cc)
+          (shape-kind _ _ h ∙ ap (λ k. kindOf (atomic k)) p, cc)
       go (compound h′) h = let u = sym (term-at i (compound h′) l h) ∙ e in absurd (let o : _≡_ {A = ℕ} 0 1 = cc in omega arith)
 
   -- the key that a head takes
@@ -116,7 +116,7 @@ module _ (s : List ℕ) (bytes : Bytes s) (all : (i : ℕ) → i < terms s → G
           (key-taken o (yAt s i) (term s (xAt s i)) (omega arith) (f .1 .1), ih (xAt s i) (omega arith) (omega arith), ih (yAt s i) (omega arith) (omega arith))
 
   -- keys of one name, one the other's inverse
-  kinds-inverse : (i j : ℕ) (κ : Kind) → i < terms s → j < terms s → Key κ → kindAt s i ≡ kindFor (atomic κ) → kindAt s j ≡ kindFor (atomic (otherKind κ)) →
+  kinds-inverse : (i j : ℕ) (κ : Kind) → i < terms s → j < terms s → Key κ → kindAt s i ≡ kindOf (atomic κ) → kindAt s j ≡ kindOf (atomic (otherKind κ)) →
       nameAt s i ≡ nameAt s j → Match asymmetric (term s i) (term s j)
   kinds-inverse i j κ l m k e f n =
       let p = term-of-kind i (atomic κ) tt l e in
@@ -184,7 +184,7 @@ listed s b e =
     }
 
 -- a listed compound term, by its record's kind
-pub compound-term : {s : List ℕ} → Listed s → (i : ℕ) (h : Head) → Listable (compound h) → i < terms s → kindAt s i ≡ kindFor (compound h) →
+pub compound-term : {s : List ℕ} → Listed s → (i : ℕ) (h : Head) → Listable (compound h) → i < terms s → kindAt s i ≡ kindOf (compound h) →
     (xAt s i < terms s) × (yAt s i < terms s) × (term s i ≡ node h (term s (xAt s i)) (term s (yAt s i)))
 compound-term {s} z i h f l e =
     let u : Below i (branch h (xAt s i) (yAt s i)) = subst (Below i) (record-at s i (compound h) (ap shapeOf e ∙ kind-shape (compound h) f)) (z .table .earlier i l) in

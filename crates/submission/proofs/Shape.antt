@@ -9,29 +9,18 @@ use lib.Dec.{eqb}
 use borrow.Author.Tests.{eqb-true}
 use Rattle.base.proofs.Says.{Says, says-eqb, says-ltb, says-and, says-any, denies, not-not-false, or-false}
 use Rattle.term.specs.Term.{plain, public, private, symmetric, asymmetric, pair, part, encrypt, decrypt}
-use Rattle.submission.specs.Record.{kindAt, xAt, yAt, Shape, atomic, compound, shapeOf, takes, recordOf}
+use Rattle.submission.specs.Record.{kindAt, xAt, yAt, Shape, atomic, compound, shapeOf, kindOf, takes, recordOf}
 use Rattle.submission.specs.Check.{shapeFits, sameRecord, badTerm}
 
--- the kind of a record of this shape; 0 for a shape that no record has
-abbrev pub kindFor : Shape → ℕ
-kindFor (atomic plain) = 1
-kindFor (atomic public) = 2
-kindFor (atomic private) = 3
-kindFor (compound pair) = 4
-kindFor (compound (part i)) = 0
-kindFor (compound (encrypt symmetric)) = 5
-kindFor (compound (encrypt asymmetric)) = 6
-kindFor (compound (decrypt c)) = 0
-
 -- one row of the kinds' table
-row : (k i : ℕ) (y z : Shape) (o : Option Shape) → kindFor y ≡ i → (o ≡ some z → k ≡ kindFor z) → cond (eqb k i) (some y) o ≡ some z → k ≡ kindFor z
+row : (k i : ℕ) (y z : Shape) (o : Option Shape) → kindOf y ≡ i → (o ≡ some z → k ≡ kindOf z) → cond (eqb k i) (some y) o ≡ some z → k ≡ kindOf z
 row k i y z o f h = go (eqb k i) refl
   where
-    go : (b : Bool) → eqb k i ≡ b → cond b (some y) o ≡ some z → k ≡ kindFor z
-    go true e r = let q : y ≡ z = cc in eqb-true k i e ∙ sym f ∙ ap kindFor q
+    go : (b : Bool) → eqb k i ≡ b → cond b (some y) o ≡ some z → k ≡ kindOf z
+    go true e r = let q : y ≡ z = cc in eqb-true k i e ∙ sym f ∙ ap kindOf q
     go false e r = h r
 
-pub shape-kind : (k : ℕ) (z : Shape) → shapeOf k ≡ some z → k ≡ kindFor z
+pub shape-kind : (k : ℕ) (z : Shape) → shapeOf k ≡ some z → k ≡ kindOf z
 unfolding shapeOf
 shape-kind k z =
     row k 1 (atomic plain) z _ refl
@@ -50,7 +39,7 @@ Listable (compound (part i)) = ⊥
 Listable (compound (encrypt c)) = Unit {0}
 Listable (compound (decrypt c)) = ⊥
 
-pub kind-shape : (z : Shape) → Listable z → shapeOf (kindFor z) ≡ some z
+pub kind-shape : (z : Shape) → Listable z → shapeOf (kindOf z) ≡ some z
 unfolding shapeOf
 kind-shape (atomic plain) l = refl
 kind-shape (atomic public) l = refl

@@ -8,7 +8,7 @@ use lib.Dec.{eqb}
 use lib.ListN.{getD}
 use Rattle.term.specs.Term.{Kind, plain, public, private, symmetric, asymmetric, Head, pair, part, encrypt, decrypt, Term}
 use Rattle.term.specs.Table.{Rec, leaf, branch, decoded, void}
-use Rattle.submission.specs.Contents.{byte, word, count, start}
+use Rattle.submission.specs.Contents.{byte, count, start}
 
 -- "Call the counts of K and D also K and N": the counts of terms, of knowledge entries and of steps
 abbrev pub terms : List ℕ → ℕ
@@ -78,6 +78,17 @@ shapeOf k =
     (cond (eqb k 5) (some (compound (encrypt symmetric)))
     (cond (eqb k 6) (some (compound (encrypt asymmetric)))
     none)))))
+
+-- and back: the kind of a record of this shape; 0 for a head that no record has
+abbrev pub kindOf : Shape → ℕ
+kindOf (atomic plain) = 1
+kindOf (atomic public) = 2
+kindOf (atomic private) = 3
+kindOf (compound pair) = 4
+kindOf (compound (part i)) = 0
+kindOf (compound (encrypt symmetric)) = 5
+kindOf (compound (encrypt asymmetric)) = 6
+kindOf (compound (decrypt c)) = 0
 
 -- "5 enc(x, y), y a plain atom; 6 enca(x, y), y a key of kind 2 or 3": which kind of second operand a head takes
 abbrev pub takes : Head → ℕ → Bool

@@ -1,13 +1,13 @@
 // A submission's bytes as records, and checks 1 to 5.
 // Promises: every function is total, for all bytes, and its answer is what the definitions of specs/ give.
 ghost use mathlib.Core.Path.{_≡_};
-ghost use mathlib.Core.Bool.{not};
-ghost use Prim.Native.Nat.{_+_, _*_, _≤_, _<_};
-ghost use lib.ListN.{length};
+ghost use mathlib.Core.Bool.{_&&_, _||_};
+ghost use Prim.Native.Nat.{_<_};
 ghost use lib.Dec.{eqb};
 ghost use Rattle.base.specs.First.{any};
-ghost use Rattle.submission.specs.Contents.{byte as byteAt, word as wordAt, count, wrongLetter, wrongStart, check1, check2, Bytes};
-ghost use Rattle.submission.specs.Record.{terms as termCount, entries as entryCount, steps as stepCount, kindAt, entryAt, shapeOf, areInverse};
+ghost use Rattle.submission.specs.Contents.{byte as byteAt, word as wordAt, wrongLetter, wrongStart, badContents, check1, check2};
+ghost use Rattle.submission.specs.Record.{terms as termCount, entries as entryCount, steps as stepCount, kindAt, entryAt, wayAt, shapeOf, isAtomic, areInverse};
+ghost use Rattle.submission.specs.Claim.{wayOf, companionFits};
 ghost use Rattle.submission.specs.Check.{shapeFits, sameRecord, badTerm, badKnowledge, goodClaim, check3, check4, check5, checks1to4, checks1to5};
 ghost use Rattle.submission.specs.Stage.{checkOf, Starts, IsTerm, IsClaim};
 
@@ -152,4 +152,311 @@ pub fn are_inverse(s: &[u8], i: u8, j: u8) -> bool
         return b.kind == 2;
     }
     false
+}
+
+// ---- Check 1, contents.
+
+// Whether a letter of the contents is wrong.
+fn is_letter_wrong(s: &[u8]) -> bool
+    ensures { λ r. ⌜ r ≡ any (wrongLetter (now (s .entry))) 4 ⌝ }
+{
+    let letters = b"TKDV";
+    let mut i = 0;
+    while i < 4 {
+        if byte(s, 4 * i) != letters[i] {
+            return true;
+        }
+        i += 1;
+    }
+    false
+}
+
+// Whether a start of the contents is wrong.
+fn is_start_wrong(s: &[u8]) -> bool
+    ensures { λ r. ⌜ r ≡ any (wrongStart (now (s .entry))) 4 ⌝ }
+{
+    if word(s, 2) != 16 {
+        return true;
+    }
+    if word(s, 6) != knowledge_start(s) {
+        return true;
+    }
+    if word(s, 10) != derivation_start(s) {
+        return true;
+    }
+    word(s, 14) != claim_start(s)
+}
+
+fn are_contents_wrong(s: &[u8]) -> bool
+    ensures { λ r. ⌜ r ≡ badContents (now (s .entry)) ⌝ }
+{
+    if s.len() < 16 {
+        return true;
+    }
+    if is_letter_wrong(s) {
+        return true;
+    }
+    if is_start_wrong(s) {
+        return true;
+    }
+    s.len() != end(s)
+}
+
+pub fn check_contents(s: &[u8]) -> Stage
+    ensures { λ r. ⌜ checkOf r ≡ check1 (now (s .entry)) ⌝ }
+{
+    if are_contents_wrong(s) {
+        return Stage::Refused {
+            number: 1,
+            place: 0,
+        };
+    }
+    Stage::Passed
+}
+
+// ---- Check 2, count.
+pub fn check_counts(s: &[u8]) -> Stage
+    ensures { λ r. ⌜ checkOf r ≡ check2 (now (s .entry)) ⌝ }
+{
+    let least: [u8; 4] = [1, 0, 0, 1];
+    let most: [u8; 4] = [250, 64, 128, 1];
+    let mut i = 0;
+    while i < 4 {
+        let count = byte(s, 4 * i + 1);
+        if count < least[i] {
+            return Stage::Refused {
+                number: 2,
+                place: i as u16,
+            };
+        }
+        if most[i] < count {
+            return Stage::Refused {
+                number: 2,
+                place: i as u16,
+            };
+        }
+        i += 1;
+    }
+    Stage::Passed
+}
+
+// ---- Check 3, term.
+
+// Whether a term of this kind is a public or a private key.
+pub fn is_key(kind: u8) -> bool
+    ensures { λ r. ⌜ r ≡ (eqb kind 2 || eqb kind 3) ⌝ }
+{
+    if kind == 2 {
+        return true;
+    }
+    kind == 3
+}
+
+// Whether a term of this kind is an atom: a plain one, or a key.
+pub fn is_atom(kind: u8) -> bool
+    ensures { λ r. ⌜ r ≡ isAtomic (shapeOf kind) ⌝ }
+{
+    if kind == 1 {
+        return true;
+    }
+    is_key(kind)
+}
+
+// Whether record i is of some kind, with parts that are earlier terms and a key that this kind takes.
+fn shape_fits(s: &[u8], i: u8) -> bool
+    ensures { λ r. ⌜ r ≡ shapeFits (now (s .entry)) i (shapeOf (kindAt (now (s .entry)) i)) ⌝ }
+{
+    let t = term_at(s, i);
+    if is_atom(t.kind) {
+        return true;
+    }
+    if i <= t.x {
+        return false;
+    }
+    if i <= t.y {
+        return false;
+    }
+    let second = term_at(s, t.y);
+    let kind = t.kind;
+    match kind {
+        4 => true,
+        5 => second.kind == 1,
+        6 => is_key(second.kind),
+        _ => false,
+    }
+}
+
+fn is_same(a: Term, b: Term) -> bool
+    ensures { λ r. ⌜ r ≡ (eqb (a .kind) (b .kind) && (eqb (a .x) (b .x) && eqb (a .y) (b .y))) ⌝ }
+{
+    if a.kind != b.kind {
+        return false;
+    }
+    if a.x != b.x {
+        return false;
+    }
+    a.y == b.y
+}
+
+// Whether an earlier record equals record i.
+fn is_repeated(s: &[u8], i: u8) -> bool
+    ensures { λ r. ⌜ r ≡ any (sameRecord (now (s .entry)) i) i ⌝ }
+{
+    let t = term_at(s, i);
+    let mut j: u8 = 0;
+    while j < i {
+        if is_same(term_at(s, j), t) {
+            return true;
+        }
+        j += 1;
+    }
+    false
+}
+
+fn is_term_bad(s: &[u8], i: u8) -> bool
+    ensures { λ r. ⌜ r ≡ badTerm (now (s .entry)) i ⌝ }
+{
+    if shape_fits(s, i) {
+        return is_repeated(s, i);
+    }
+    true
+}
+
+pub fn check_terms(s: &[u8]) -> Stage
+    ensures { λ r. ⌜ checkOf r ≡ check3 (now (s .entry)) ⌝ }
+{
+    let n = terms(s);
+    let mut i: u8 = 0;
+    while i < n {
+        if is_term_bad(s, i) {
+            return Stage::Refused {
+                number: 3,
+                place: wide16(i),
+            };
+        }
+        i += 1;
+    }
+    Stage::Passed
+}
+
+// ---- Check 4, knowledge.
+
+// Whether an earlier entry of the knowledge equals entry i.
+fn is_entry_repeated(s: &[u8], i: u8) -> bool
+    ensures { λ r. ⌜ r ≡ any (λ j. eqb (entryAt (now (s .entry)) j) (entryAt (now (s .entry)) i)) i ⌝ }
+{
+    let t = entry_at(s, i);
+    let mut k: u8 = 0;
+    while k < i {
+        if entry_at(s, k) == t {
+            return true;
+        }
+        k += 1;
+    }
+    false
+}
+
+fn is_entry_bad(s: &[u8], i: u8) -> bool
+    ensures { λ r. ⌜ r ≡ badKnowledge (now (s .entry)) i ⌝ }
+{
+    if entry_at(s, i) < terms(s) {
+        return is_entry_repeated(s, i);
+    }
+    true
+}
+
+pub fn check_knowledge(s: &[u8]) -> Stage
+    ensures { λ r. ⌜ checkOf r ≡ check4 (now (s .entry)) ⌝ }
+{
+    let n = entries(s);
+    let mut i: u8 = 0;
+    while i < n {
+        if is_entry_bad(s, i) {
+            return Stage::Refused {
+                number: 4,
+                place: wide16(i),
+            };
+        }
+        i += 1;
+    }
+    Stage::Passed
+}
+
+// ---- Check 5, claim.
+
+// Whether the companion is in range for the claim's way.
+fn companion_fits(s: &[u8], c: Claim) -> bool
+    requires { ⌜ IsClaim (now s) c ⌝ }
+    ensures { λ r. ⌜ r ≡ companionFits (now (s .entry)) (wayOf (wayAt (now (s .entry)))) ⌝ }
+{
+    let step_count = steps(s);
+    let term_count = terms(s);
+    let way = c.way;
+    match way {
+        b'a' => c.companion < step_count,
+        b'b' => c.companion == 0,
+        b'c' => c.companion < term_count,
+        _ => false,
+    }
+}
+
+fn is_claim_good(s: &[u8]) -> bool
+    ensures { λ r. ⌜ r ≡ goodClaim (now (s .entry)) ⌝ }
+{
+    let c = claim_of(s);
+    if terms(s) <= c.guess {
+        return false;
+    }
+    let guess = term_at(s, c.guess);
+    if !is_atom(guess.kind) {
+        return false;
+    }
+    if steps(s) <= c.step {
+        return false;
+    }
+    companion_fits(s, c)
+}
+
+pub fn check_claim(s: &[u8]) -> Stage
+    ensures { λ r. ⌜ checkOf r ≡ check5 (now (s .entry)) ⌝ }
+{
+    if is_claim_good(s) {
+        return Stage::Passed;
+    }
+    Stage::Refused {
+        number: 5,
+        place: 0,
+    }
+}
+
+// ---- The checks in order; a refusal goes straight out.
+
+// Checks 1 to 4.
+pub fn check_body(s: &[u8]) -> Stage
+    ensures { λ r. ⌜ checkOf r ≡ checks1to4 (now (s .entry)) ⌝ }
+{
+    let contents = check_contents(s);
+    let Stage::Passed = contents else {
+        return contents;
+    };
+    let counts = check_counts(s);
+    let Stage::Passed = counts else {
+        return counts;
+    };
+    let terms = check_terms(s);
+    let Stage::Passed = terms else {
+        return terms;
+    };
+    check_knowledge(s)
+}
+
+// Checks 1 to 5.
+pub fn check_reading(s: &[u8]) -> Stage
+    ensures { λ r. ⌜ checkOf r ≡ checks1to5 (now (s .entry)) ⌝ }
+{
+    let body = check_body(s);
+    let Stage::Passed = body else {
+        return body;
+    };
+    check_claim(s)
 }

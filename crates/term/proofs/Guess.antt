@@ -39,8 +39,8 @@ OutOfReach K p q = (Reach K p → ⊥) ⊎ (Reach K q → ⊥)
 
 -- K is the knowledge, D the steps of the derivation, g the guess, w the value that is tried for it
 module _ (K : Term → Type 0) (D : Head → Term → Term → Term → Type 0) (g w : Term) where
-  -- the guess w is wrong: neither it nor its inverse is part of the knowledge
-  pub record WrongGuess : Type 0 where
+  -- the guess w is fresh: neither it nor its inverse is part of the knowledge, which holds messages; and D holds Dolev-Yao steps
+  pub record FreshGuess : Type 0 where
     pub sound : (h : Head) (p q t : Term) → D h p q t → Step h p q t
     pub messages : (t : Term) → K t → Message t
     pub w-atom : Atomic w
@@ -61,8 +61,8 @@ module _ (K : Term → Type 0) (D : Head → Term → Term → Term → Type 0) 
     pub second : MayHold q u
     pub once : single h ≡ true → v ≡ u
 
-  module _ (wrong : WrongGuess) where
-    open WrongGuess wrong using (sound, messages, w-atom, w-fresh, w-inverse-fresh)
+  module _ (fresh : FreshGuess) where
+    open FreshGuess fresh using (sound, messages, w-atom, w-fresh, w-inverse-fresh)
 
     inverse-atomic : Atomic (inverse w)
     inverse-atomic = let e = w-atom .2 in subst (λ z. Atomic (inverse z)) (sym e) (_, w-atom .1, refl)

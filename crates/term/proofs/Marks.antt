@@ -11,12 +11,8 @@ use Rattle.base.specs.First.{any}
 use Rattle.base.specs.Grow.{listed}
 use Rattle.base.proofs.Order.{lt-or-ge}
 use Rattle.base.proofs.Bools.{or-left, or-right, or-neither}
-use Rattle.base.proofs.Says.{Says, says-and, says-any, denies}
+use Rattle.base.proofs.Says.{Says, true-or-false, says-and, says-any, denies}
 use Rattle.base.proofs.Grow.{length-listed, listed-at}
-
-pub true-or-false : (b : Bool) → (b ≡ true) ⊎ (b ≡ false)
-true-or-false true = inl refl
-true-or-false false = inr refl
 
 not-true : (b : Bool) → Says (not b) (b ≡ false)
 not-true true = (λ e. absurd (false≢true e), λ e. absurd (true≢false e))

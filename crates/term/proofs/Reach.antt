@@ -2,13 +2,21 @@
 use mathlib.Core.Path.{_≡_, refl}
 use mathlib.Core.Logic.{_↔_, _⊎_, inl, inr, ⊎-elim}
 use mathlib.Core.List.{List, [], _∷_}
-use Rattle.term.specs.Term.{Head, Term, Message, Part}
+use Rattle.term.specs.Term.{Cipher, Side, Head, pair, part, encrypt, decrypt, Term, node, Match, Message, Part}
+use Rattle.term.specs.Reduce.{pick}
 use Rattle.term.specs.Step.{Step, Line, Reaches, Deducible}
 use Rattle.term.proofs.Reduce.{Atomic, step-message, step-part}
 
 pub data Reach (K : Term → Type 0) : Term → Type 0 where
   known : {t : Term} → K t → Reach K t
   stepped : {t : Term} (h : Head) (p q : Term) → Step h p q t → Reach K p → Reach K q → Reach K t
+
+-- taking apart is by steps
+pub reach-part : {K : Term → Type 0} (i : Side) {x y : Term} → Reach K (node pair x y) → Reach K (pick i x y)
+reach-part i {x} {y} r = stepped (part i) (node pair x y) (node pair x y) ((x, y, refl, refl), refl) r r
+
+pub reach-opened : {K : Term → Type 0} (c : Cipher) {x k j : Term} → Reach K (node (encrypt c) x k) → Match c k j → Reach K j → Reach K x
+reach-opened c {x} {k} {j} r m y = stepped (decrypt c) (node (encrypt c) x k) j (k, refl, m) r y
 
 -- only messages, and only atoms of the knowledge, are reached from messages
 module _ (K : Term → Type 0) where

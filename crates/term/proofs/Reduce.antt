@@ -1,21 +1,18 @@
 -- The reductions as relations, and what the machine's step does: for any two heads that cancel, and for a pair and its parts.
 use mathlib.Core.Path.{_≡_, refl, ap, ap₂, sym, _∙_, subst}
 use mathlib.Core.Logic.{_⊎_, inl, inr, ⊎-elim, ite, Dec·and, if-pos}
-use mathlib.Core.Bool.{true, false}
+use mathlib.Core.Bool.{false≢true}
 use native.Mathlib.Omega.{arith}
 use Prim.Native.Nat.{ℕ}
+use Rattle.base.proofs.Says.{Says}
 use Rattle.term.specs.Term.{Kind, plain, public, private, Cipher, symmetric, asymmetric, Side, left, right, Head, pair, part, encrypt, decrypt, Term, atom, node, test, term?, head?, isKey, Fits, turn, Match, builds, Message, Part}
 use Rattle.term.specs.Reduce.{match?, cancelled, paired, pick, parted, op}
 use Rattle.term.specs.Step.{Step}
 
 -- a decision as a test says what was decided
-pub test-yes : {P : Type 0} (d : Dec P) → P → test d ≡ true
-test-yes (yes p) h = refl
-test-yes (no p) h = absurd (p h)
-
-pub test-no : {P : Type 0} (d : Dec P) → ¬ P → test d ≡ false
-test-no (yes p) h = absurd (h p)
-test-no (no p) h = refl
+pub says-test : {P : Type 0} (d : Dec P) → Says (test d) P
+says-test (yes p) = (λ e. p, λ x. refl)
+says-test (no f) = (λ e. absurd (false≢true e), λ x. absurd (f x))
 
 -- ---- keys that match determine each other
 pub match-det : {c : Cipher} {k j j′ : Term} → Match c k j → Match c k j′ → j ≡ j′

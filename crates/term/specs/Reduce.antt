@@ -2,7 +2,7 @@
 -- "Each rule forms a term with its own head .. unless one of these reductions applies to it."
 use mathlib.Core.Path.{_≡_}
 use mathlib.Core.Logic.{ite, Dec·and}
-use Rattle.term.specs.Term.{Kind, plain, public, private, Cipher, symmetric, asymmetric, Side, left, right, Head, pair, part, encrypt, decrypt, Term, atom, node, head?, term?, isKey, Fits, turn, Match}
+use Rattle.term.specs.Term.{plain, public, private, Cipher, symmetric, asymmetric, Side, left, right, Head, pair, part, encrypt, decrypt, Term, atom, node, head?, term?, isKey, Fits, turn, Match}
 
 unfoldable pub isKey? : (t : Term) → Dec (isKey t)
 isKey? (atom plain n) = no (λ x. x)

@@ -2,7 +2,7 @@
 use mathlib.Core.Path.{_≡_}
 use mathlib.Core.Logic.{_⊎_}
 use mathlib.Core.List.{List, [], _∷_}
-use Rattle.term.specs.Term.{Side, left, right, Head, pair, part, encrypt, decrypt, Cipher, Term, atom, node, Keyed, Match}
+use Rattle.term.specs.Term.{Side, Head, pair, part, encrypt, decrypt, Term, node, Keyed, Match}
 use Rattle.term.specs.Reduce.{pick}
 
 -- The table's rows: the rule h concludes t from the premises p and q. The one premise of fst and snd counts as both.

@@ -1,0 +1,261 @@
+use borrow.Author.Needs.{needs}
+use Rattle.deduction.proofs.Building.{decided-before, now-known, now-atom, now-left, now-both, x-falls, x-term, y-falls, y-term}
+use Prim.Native.Nat.{ℕ, _<_}
+use borrow.Fn.Kinds.{In}
+use borrow.Fn.PlainCycle.{Measures, is, falls, and}
+use Rattle.deduction.proofs.build.Reads as build
+use Rattle.deduction.proofs.build.Kinds as build-kinds
+use Rattle.deduction.proofs.+build.Lts-build as build-lts
+use Rattle.submission.proofs.term_at.Reads as term-at-reads
+use Rattle.submission.proofs.wide.Reads as wide-reads
+use Rattle.deduction.proofs.+build.{statement}
+use Rattle.deduction.proofs.+build.Tie.{close}
+
+abbrev μ-build : Measures 2 build-kinds.ps ℕ
+μ-build κs a = a .1 .1 .1 .0
+
+abbrev build-at : ℕ → In 2 build-kinds.ps
+build-at t = and 2 build-kinds.ps (is 2 build-kinds.ps μ-build t) build.Pre
+
+abbrev build-below : ℕ → In 2 build-kinds.ps
+build-below t = and 2 build-kinds.ps (falls 2 build-kinds.ps _<_ μ-build t) build.Pre
+
+-- src/lib.rt:73:9
+build-wide-requires : (t : ℕ) → build-lts.Need-wide-requires (
+  wide-reads.Asked,
+  wide-reads.Learnt,
+  term-at-reads.Asked,
+  term-at-reads.Learnt,
+  build-below t,
+  build.Post,
+) (build-at t) build.Post
+build-wide-requires t c κs = search needs
+
+-- src/lib.rt:74:16
+build-element-copy-out-mark : (t : ℕ) → build-lts.Need-element-copy-out-mark (
+  wide-reads.Asked,
+  wide-reads.Learnt,
+  term-at-reads.Asked,
+  term-at-reads.Learnt,
+  build-below t,
+  build.Post,
+) (build-at t) build.Post
+build-element-copy-out-mark t c = search needs
+
+-- src/lib.rt:76:9
+build-returns : (t : ℕ) → build-lts.Need-returns (
+  wide-reads.Asked,
+  wide-reads.Learnt,
+  term-at-reads.Asked,
+  term-at-reads.Learnt,
+  build-below t,
+  build.Post,
+) (build-at t) build.Post
+build-returns t c = search (decided-before, now-known, now-atom, now-left, now-both, needs)
+
+-- src/lib.rt:78:8
+build-element-copy-out-if2 : (t : ℕ) → build-lts.Need-element-copy-out-if2 (
+  wide-reads.Asked,
+  wide-reads.Learnt,
+  term-at-reads.Asked,
+  term-at-reads.Learnt,
+  build-below t,
+  build.Post,
+) (build-at t) build.Post
+build-element-copy-out-if2 t c = search needs
+
+-- src/lib.rt:79:9
+build-element-write-out : (t : ℕ) → build-lts.Need-element-write-out (
+  wide-reads.Asked,
+  wide-reads.Learnt,
+  term-at-reads.Asked,
+  term-at-reads.Learnt,
+  build-below t,
+  build.Post,
+) (build-at t) build.Post
+build-element-write-out t c = search needs
+
+-- src/lib.rt:80:9
+build-returns-2 : (t : ℕ) → build-lts.Need-returns-2 (
+  wide-reads.Asked,
+  wide-reads.Learnt,
+  term-at-reads.Asked,
+  term-at-reads.Learnt,
+  build-below t,
+  build.Post,
+) (build-at t) build.Post
+build-returns-2 t c = search (decided-before, now-known, now-atom, now-left, now-both, needs)
+
+-- src/lib.rt:82:9
+build-term-at-requires : (t : ℕ) → build-lts.Need-term-at-requires (
+  wide-reads.Asked,
+  wide-reads.Learnt,
+  term-at-reads.Asked,
+  term-at-reads.Learnt,
+  build-below t,
+  build.Post,
+) (build-at t) build.Post
+build-term-at-requires t c κs = search needs
+
+-- src/lib.rt:84:9
+build-element-write-out-2 : (t : ℕ) → build-lts.Need-element-write-out-2 (
+  wide-reads.Asked,
+  wide-reads.Learnt,
+  term-at-reads.Asked,
+  term-at-reads.Learnt,
+  build-below t,
+  build.Post,
+) (build-at t) build.Post
+build-element-write-out-2 t c = search needs
+
+-- src/lib.rt:85:9
+build-returns-3 : (t : ℕ) → build-lts.Need-returns-3 (
+  wide-reads.Asked,
+  wide-reads.Learnt,
+  term-at-reads.Asked,
+  term-at-reads.Learnt,
+  build-below t,
+  build.Post,
+) (build-at t) build.Post
+build-returns-3 t c = search (decided-before, now-known, now-atom, now-left, now-both, needs)
+
+-- src/lib.rt:87:20
+build-build-requires : (t : ℕ) → build-lts.Need-build-requires (
+  wide-reads.Asked,
+  wide-reads.Learnt,
+  term-at-reads.Asked,
+  term-at-reads.Learnt,
+  build-below t,
+  build.Post,
+) (build-at t) build.Post
+build-build-requires t c κs = search (x-falls, x-term, needs)
+
+-- src/lib.rt:88:28
+build-wide-requires-2 : (t : ℕ) → build-lts.Need-wide-requires-2 (
+  wide-reads.Asked,
+  wide-reads.Learnt,
+  term-at-reads.Asked,
+  term-at-reads.Learnt,
+  build-below t,
+  build.Post,
+) (build-at t) build.Post
+build-wide-requires-2 t c κs = search needs
+
+-- src/lib.rt:88:17
+build-element-copy-out-first : (t : ℕ) → build-lts.Need-element-copy-out-first (
+  wide-reads.Asked,
+  wide-reads.Learnt,
+  term-at-reads.Asked,
+  term-at-reads.Learnt,
+  build-below t,
+  build.Post,
+) (build-at t) build.Post
+build-element-copy-out-first t c = search needs
+
+-- src/lib.rt:90:9
+build-element-write-left : (t : ℕ) → build-lts.Need-element-write-left (
+  wide-reads.Asked,
+  wide-reads.Learnt,
+  term-at-reads.Asked,
+  term-at-reads.Learnt,
+  build-below t,
+  build.Post,
+) (build-at t) build.Post
+build-element-write-left t c = search needs
+
+-- src/lib.rt:91:9
+build-returns-4 : (t : ℕ) → build-lts.Need-returns-4 (
+  wide-reads.Asked,
+  wide-reads.Learnt,
+  term-at-reads.Asked,
+  term-at-reads.Learnt,
+  build-below t,
+  build.Post,
+) (build-at t) build.Post
+build-returns-4 t c = search (decided-before, now-known, now-atom, now-left, now-both, needs)
+
+-- src/lib.rt:93:20
+build-build-requires-2 : (t : ℕ) → build-lts.Need-build-requires-2 (
+  wide-reads.Asked,
+  wide-reads.Learnt,
+  term-at-reads.Asked,
+  term-at-reads.Learnt,
+  build-below t,
+  build.Post,
+) (build-at t) build.Post
+build-build-requires-2 t c κs = search (y-falls, y-term, needs)
+
+-- src/lib.rt:94:29
+build-wide-requires-3 : (t : ℕ) → build-lts.Need-wide-requires-3 (
+  wide-reads.Asked,
+  wide-reads.Learnt,
+  term-at-reads.Asked,
+  term-at-reads.Learnt,
+  build-below t,
+  build.Post,
+) (build-at t) build.Post
+build-wide-requires-3 t c κs = search needs
+
+-- src/lib.rt:94:18
+build-element-copy-out-second : (t : ℕ) → build-lts.Need-element-copy-out-second (
+  wide-reads.Asked,
+  wide-reads.Learnt,
+  term-at-reads.Asked,
+  term-at-reads.Learnt,
+  build-below t,
+  build.Post,
+) (build-at t) build.Post
+build-element-copy-out-second t c = search needs
+
+-- src/lib.rt:95:5
+build-element-write-both : (t : ℕ) → build-lts.Need-element-write-both (
+  wide-reads.Asked,
+  wide-reads.Learnt,
+  term-at-reads.Asked,
+  term-at-reads.Learnt,
+  build-below t,
+  build.Post,
+) (build-at t) build.Post
+build-element-write-both t c = search needs
+
+-- src/lib.rt:66:1
+build-returns-5 : (t : ℕ) → build-lts.Need-returns-5 (
+  wide-reads.Asked,
+  wide-reads.Learnt,
+  term-at-reads.Asked,
+  term-at-reads.Learnt,
+  build-below t,
+  build.Post,
+) (build-at t) build.Post
+build-returns-5 t c = search (decided-before, now-known, now-atom, now-left, now-both, needs)
+
+pub +build-spec : {M : Type 1} → statement M
++build-spec = close μ-build λ t. build-lts.spec (
+  wide-reads.Asked,
+  wide-reads.Learnt,
+  term-at-reads.Asked,
+  term-at-reads.Learnt,
+  build-below t,
+  build.Post,
+)
+    (build-at t)
+    build.Post
+    (build-wide-requires t)
+    (build-element-copy-out-mark t)
+    (build-returns t)
+    (build-element-copy-out-if2 t)
+    (build-element-write-out t)
+    (build-returns-2 t)
+    (build-term-at-requires t)
+    (build-element-write-out-2 t)
+    (build-returns-3 t)
+    (build-build-requires t)
+    (build-wide-requires-2 t)
+    (build-element-copy-out-first t)
+    (build-element-write-left t)
+    (build-returns-4 t)
+    (build-build-requires-2 t)
+    (build-wide-requires-3 t)
+    (build-element-copy-out-second t)
+    (build-element-write-both t)
+    (build-returns-5 t)

@@ -1,0 +1,40 @@
+-- A premise that was known before its step: its lowest register is the one that the registers after the last step name.
+use mathlib.Core.Path.{_≡_, sym, ap, _∙_}
+use mathlib.Core.Bool.{true, false}
+use mathlib.Core.List.{List}
+use mathlib.Core.Option.{some}
+use Prim.Native.Nat.{ℕ, _≤_, _<_}
+use native.Mathlib.Omega.{arith}
+use lib.ListN.{getD}
+use borrow.Author.Tests.{not-false}
+use Rattle.base.proofs.Says.{says-and, says-true}
+use Rattle.base.proofs.First.{first-some}
+use Rattle.base.proofs.FirstMore.{first-kept, any-first}
+use Rattle.submission.specs.Record.{steps, pAt}
+use Rattle.derivation.specs.declared.Registers.{Registers}
+use Rattle.derivation.specs.Register.{written, lowestOf, isKnown}
+use Rattle.derivation.specs.Step.{secondAt, unfounded}
+use Rattle.derivation.specs.Code.{Registered}
+use Rattle.derivation.proofs.Held.{held-lowest}
+
+-- a founded step's premises are known before it
+module _ (s : List ℕ) (i : ℕ) (f : unfounded s i ≡ false) where
+  pub first-known : isKnown s i (pAt s i) ≡ true
+  unfolding unfounded
+  first-known = says-and (isKnown s i (pAt s i)) (isKnown s i (secondAt s i)) (says-true _) (says-true _) .0 (not-false _ f) .0
+
+  pub second-known : isKnown s i (secondAt s i) ≡ true
+  unfolding unfounded
+  second-known = says-and (isKnown s i (pAt s i)) (isKnown s i (secondAt s i)) (says-true _) (says-true _) .0 (not-false _ f) .1
+
+-- what is known before a step is in a register written before it, and that one stays the lowest
+module _ (s : List ℕ) (i t : ℕ) (l : i ≤ steps s) (k : isKnown s i t ≡ true) where
+  pub known-lowest : (q : ℕ) × (lowestOf s (written s (steps s)) t ≡ some q) × (q < written s i)
+  known-lowest =
+      let (q, e) = any-first _ (written s i) k in
+      (q, first-kept _ (written s i) (written s (steps s)) q (omega arith) e, first-some _ (written s i) q e .0)
+
+  pub known-held : {r : Registers} → Registered s (written s (steps s)) r → t < 256 → lowestOf s (written s (steps s)) t ≡ some (getD (r .first) t 0)
+  known-held h m =
+      let (q, e, b) = known-lowest in
+      e ∙ ap some (sym (held-lowest h t m q e))

@@ -1,0 +1,17 @@
+-- `is_record` makes three tests one after the other.
+use Rattle.derivation.proofs.Tests.{tests}
+use borrow.Author.Needs.{needs}
+use Rattle.derivation.proofs.is_record.Statement.{statement}
+use Rattle.derivation.proofs.is_record.Tie as tie
+
+returns : tie.Need-returns
+returns c = search (tests, needs)
+
+returns-2 : tie.Need-returns-2
+returns-2 c = search (tests, needs)
+
+returns-3 : tie.Need-returns-3
+returns-3 c = search (tests, needs)
+
+pub is-record-spec : {M : Type 1} → statement M
+is-record-spec = tie.close (tie.spec returns returns-2 returns-3)

@@ -1,0 +1,53 @@
+-- What the code's records mean in document 01's terms.
+use mathlib.Core.Path.{_≡_}
+use mathlib.Core.Bool.{cond}
+use mathlib.Core.List.{List}
+use mathlib.Core.Option.{Option, none, some}
+use Prim.Native.Nat.{ℕ, _+_, _<_}
+use lib.Dec.{eqb}
+use lib.ListN.{getD, set}
+use Rattle.submission.specs.Answer.{Check, failsIf, andThen}
+use Rattle.submission.specs.Record.{steps, ruleAt, pAt, qAt, conclusionAt}
+use Rattle.submission.specs.Stage.{checkOf}
+use Rattle.submission.specs.declared.Stage.the-variants.{Passed}
+use Rattle.derivation.specs.declared.Step.{Step}
+use Rattle.derivation.specs.declared.Registers.{Registers}
+use Rattle.derivation.specs.declared.Checked.{Checked}
+use Rattle.derivation.specs.Register.{written, lowestOf}
+use Rattle.derivation.specs.Step.{badStep, unfounded, checkSteps}
+
+-- r holds step i
+pub record IsStep (s : List ℕ) (i : ℕ) (r : Step) : Type 0 where
+  pub rule : r .rule ≡ ruleAt s i
+  pub first : r .p ≡ pAt s i
+  pub second : r .q ≡ qAt s i
+  pub conclusion : r .conclusion ≡ conclusionAt s i
+
+-- a register's number, and 255 for none
+abbrev pub orNone : Option ℕ → ℕ
+orNone none = 255
+orNone (some q) = q
+
+-- r is the first n registers: how many they are, and the lowest that holds each term
+pub record Registered (s : List ℕ) (n : ℕ) (r : Registers) : Type 0 where
+  pub used : r .used ≡ n
+  pub first : (t : ℕ) → t < 256 → getD (r .first) t 0 ≡ orNone (lowestOf s n t)
+
+-- no register is in use
+pub record Unused (r : Registers) : Type 0 where
+  pub used : r .used ≡ 0
+  pub first : (t : ℕ) → t < 256 → getD (r .first) t 0 ≡ 255
+
+-- after holds what before does, and the term t in the next register
+pub record Added (before : Registers) (t : ℕ) (after : Registers) : Type 0 where
+  pub used : after .used ≡ before .used + 1
+  pub first : after .first ≡ cond (eqb (getD (before .first) t 0) 255) (set (before .first) t (before .used)) (before .first)
+
+-- step i's 6, then its 7
+abbrev pub checkStep : List ℕ → ℕ → Check
+checkStep s i = andThen (failsIf (badStep s i) 6 i) (failsIf (unfounded s i) 7 i)
+
+-- r is the answer of checks 6 and 7, with the registers after the last step where they pass
+pub record StepsChecked (s : List ℕ) (r : Checked) : Type 0 where
+  pub answer : checkOf (r .stage) ≡ checkSteps s
+  pub registers : r .stage ≡ Passed → Registered s (written s (steps s)) (r .registers)

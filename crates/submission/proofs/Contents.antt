@@ -1,0 +1,37 @@
+-- Checks 1 and 2, one test at a time: what a byte or a word that was read says of an entry of the contents.
+use mathlib.Core.Path.{_≡_, refl}
+use mathlib.Core.Bool.{Bool, true, false, _||_, or-true}
+use mathlib.Core.List.{List}
+use Prim.Native.Nat.{ℕ, _*_, _<_, _≤_}
+use borrow.Author.Tests.{eq-eqb, ne-eqb, lt-ltb, le-ltb}
+use mathlib.Core.Option.{none, some}
+use Rattle.base.specs.First.{any, first, firstFrom, isSome}
+use Rattle.submission.specs.Contents.{byte, letter, count, wrongLetter, least, most, badCount}
+
+module _ (s : List ℕ) (i : ℕ) {r : ℕ} where
+  pub letter-wrong : r ≡ byte s (4 * i) → (r ≡ letter i → ⊥) → wrongLetter s i ≡ true
+  letter-wrong e h = rw (← e, ne-eqb _ _ h)
+
+  pub letter-right : r ≡ byte s (4 * i) → r ≡ letter i → wrongLetter s i ≡ false
+  letter-right e h = rw (← e, eq-eqb _ _ h)
+
+  pub too-few : r ≡ count s i → r < least i → badCount s i ≡ true
+  too-few e h = rw (← e, lt-ltb _ _ h)
+
+  pub too-many : r ≡ count s i → most i < r → badCount s i ≡ true
+  too-many e h = rw (← e, lt-ltb _ _ h, or-true)
+
+  pub within : r ≡ count s i → least i ≤ r → r ≤ most i → badCount s i ≡ false
+  within e h l = rw (← e, le-ltb _ _ h, le-ltb _ _ l)
+
+-- "The first start is 16": four starts, one after the other
+pub any-four : (p : ℕ → Bool) → any p 4 ≡ (p 0 || (p 1 || (p 2 || p 3)))
+unfolding any first firstFrom
+any-four p = go (p 0) (p 1) (p 2) (p 3)
+  where
+    go : (a b c d : Bool) → isSome (elim a [ true ↦ some 0 | false ↦ elim b [ true ↦ some 1 | false ↦ elim c [ true ↦ some 2 | false ↦ elim d [ true ↦ some 3 | false ↦ none ] ] ] ]) ≡ (a || (b || (c || d)))
+    go true b c d = refl
+    go false true c d = refl
+    go false false true d = refl
+    go false false false true = refl
+    go false false false false = refl

@@ -1,0 +1,46 @@
+-- What a caller learns of a submission from a stage that passed.
+use mathlib.Core.Path.{_≡_, sym, _∙_, ap}
+use mathlib.Core.Bool.{false}
+use mathlib.Core.List.{List}
+use Prim.Native.Nat.{ℕ, _≤_}
+use native.Mathlib.Omega.{arith}
+use lib.Dec.{ltb}
+use borrow.Author.Tests.{ltb-false}
+use mir.Syntax.{w8}
+use mir.Val.{Fits}
+use Rattle.base.proofs.Says.{or-false, none-fails}
+use Rattle.submission.specs.declared.Stage.{Stage}
+use Rattle.submission.specs.declared.Stage.the-variants.{Passed}
+use Rattle.submission.specs.Answer.{Check, passes}
+use Rattle.submission.specs.Contents.{byte, Bytes, count, least, most, badCount, check1, check2, Limited}
+use Rattle.submission.specs.Check.{check5, checks1to4, checks1to5}
+use Rattle.submission.specs.Stage.{checkOf}
+use Rattle.submission.proofs.Answer.{at-passes, then-passes}
+
+-- the elements of a slice are bytes: of a function with the parameter `s: &[u8]`, `c .. .shared-slice-known .given` is the premise
+pub bytes : (s : List ℕ) → ((i : ℕ) → Fits w8 (byte s i)) → Bytes s
+bytes s f i = f i .fits
+
+pub stage-passes : (d : Check) {r : Stage} → checkOf r ≡ d → r ≡ Passed → d ≡ passes
+stage-passes d e h = sym e ∙ ap checkOf h
+
+pub body-passes : (s : List ℕ) → checks1to5 s ≡ passes → checks1to4 s ≡ passes
+unfolding checks1to5
+body-passes s e = then-passes (checks1to4 s) (check5 s) .0 e .0
+
+limit : (s : List ℕ) (i : ℕ) → badCount s i ≡ false → count s i ≤ most i
+limit s i e = ltb-false (most i) (count s i) (or-false (ltb (count s i) (least i)) (ltb (most i) (count s i)) .0 e .1)
+
+pub limited : (s : List ℕ) → checks1to4 s ≡ passes → Limited s
+unfolding checks1to4
+limited s e =
+    let (e1, r) = then-passes (check1 s) _ .0 e in
+    let (e2, r) = then-passes (check2 s) _ .0 r in
+    let good = none-fails (badCount s) 4 .0 (at-passes 2 _ .0 e2) in
+    record {
+      terms = limit s 0 (good 0 (omega arith));
+      entries = limit s 1 (good 1 (omega arith));
+      steps = limit s 2 (good 2 (omega arith));
+    }
+
+pub ruleset passing = (bytes, stage-passes, body-passes, limited)

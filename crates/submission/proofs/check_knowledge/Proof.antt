@@ -1,0 +1,57 @@
+-- `check_knowledge` meets its contract: the entries before i are good.
+use Prim.Native.Nat.{_-_}
+use Rattle.base.proofs.Scan.{scan}
+use Rattle.base.proofs.First.{Passed}
+use Rattle.submission.proofs.Stages.{fails-hit, passes-all}
+use Rattle.submission.specs.Check.{badKnowledge}
+use Rattle.submission.proofs.check_knowledge.Statement.{statement}
+use Rattle.submission.proofs.check_knowledge.Tie as tie
+
+abbrev Inv-loop : tie.InvT-loop
+Inv-loop s n i₀ i = Passed (badKnowledge s) n i
+
+abbrev μ-loop : tie.MeasureT-loop
+μ-loop s n i₀ i = n - i
+
+entries-requires : tie.Need-entries-requires Inv-loop μ-loop
+entries-requires c κs = search scan
+
+loop-holds : tie.Need-loop-holds Inv-loop μ-loop
+loop-holds c = search scan
+
+is-entry-bad-requires : tie.Need-is-entry-bad-requires Inv-loop μ-loop
+is-entry-bad-requires c κs = search scan
+
+wide16-requires : tie.Need-wide16-requires Inv-loop μ-loop
+wide16-requires c κs = search scan
+
+returns : tie.Need-returns Inv-loop μ-loop
+returns c = search (fails-hit, scan)
+
+add-i : tie.Need-add-i Inv-loop μ-loop
+add-i c = search scan
+
+loop-less : tie.Need-loop-less Inv-loop μ-loop
+loop-less c = search scan
+
+loop-again : tie.Need-loop-again Inv-loop μ-loop
+loop-again c = search scan
+
+returns-2 : tie.Need-returns-2 Inv-loop μ-loop
+returns-2 c = search (passes-all, scan)
+
+pub check-knowledge-spec : {M : Type 1} → statement M
+check-knowledge-spec =
+    tie.close
+    (tie.spec
+    Inv-loop
+    μ-loop
+    entries-requires
+    loop-holds
+    is-entry-bad-requires
+    wide16-requires
+    returns
+    add-i
+    loop-less
+    loop-again
+    returns-2)

@@ -1,0 +1,4 @@
+pub mod Decimal
+pub mod Length
+pub mod Line
+pub mod Puts

@@ -1,0 +1,72 @@
+-- What the program `verdict` prints, as bytes: document 01, after 'Marked examples'.
+use mathlib.Core.Bool.{Bool, true, false, cond}
+use mathlib.Core.List.{List, [], _∷_, _++_}
+use mathlib.Core.Option.{Option, none, some}
+use Prim.Native.Nat.{ℕ, zero, suc, _+_, _/_, _%_}
+use lib.Dec.{ltb}
+use Rattle.term.specs.Rule.{wordOf, hasOne}
+use Rattle.submission.specs.Answer.{Answer, done, refused}
+use Rattle.machine.specs.Program.{Instruction, Test, Relation, equal, inverse, relationOf, instructionAt, testOf}
+
+-- a number in decimal, in ASCII; a number has fewer digits than itself and one
+unfoldable pub digits : ℕ → ℕ → List ℕ
+digits zero n = []
+digits (suc fuel) n = elim (ltb n 10) [ true ↦ (0x30 + n) ∷ [] | false ↦ digits fuel (n / 10) ++ (0x30 + n % 10) ∷ [] ]
+
+abbrev pub decimal : ℕ → List ℕ
+decimal n = digits (suc n) n
+
+-- "with single spaces"; "Each line ends with byte 0A."
+abbrev pub space : List ℕ
+space = 0x20 ∷ []
+
+abbrev pub newline : List ℕ
+newline = 0x0A ∷ []
+
+-- the words refused, accepted and signal
+abbrev pub refusedWord : List ℕ
+refusedWord = 0x72 ∷ 0x65 ∷ 0x66 ∷ 0x75 ∷ 0x73 ∷ 0x65 ∷ 0x64 ∷ []
+
+abbrev pub acceptedWord : List ℕ
+acceptedWord = 0x61 ∷ 0x63 ∷ 0x63 ∷ 0x65 ∷ 0x70 ∷ 0x74 ∷ 0x65 ∷ 0x64 ∷ []
+
+abbrev pub signalWord : List ℕ
+signalWord = 0x73 ∷ 0x69 ∷ 0x67 ∷ 0x6E ∷ 0x61 ∷ 0x6C ∷ []
+
+-- r and the register's number
+abbrev pub registerText : ℕ → List ℕ
+registerText r = 0x72 ∷ decimal r
+
+-- "fst and snd show one register": the second register with its space, under a rule with two operands
+abbrev pub secondText : ℕ → ℕ → List ℕ
+secondText rule second = cond (hasOne rule) [] (space ++ registerText second)
+
+-- "Rule words are those of the table": the line of an instruction whose result goes to register r
+unfoldable pub stepLine : ℕ → Instruction → List ℕ
+stepLine r i =
+    registerText r ++ space ++ (0x3D ∷ []) ++ space ++ wordOf (i .rule) ++ space ++ registerText (i .first)
+    ++ secondText (i .rule) (i .second) ++ newline
+
+-- "`i` prints as `hasinv`"
+abbrev pub relationWord : Option Relation → List ℕ
+relationWord none = []
+relationWord (some equal) = 0x3D ∷ []
+relationWord (some inverse) = 0x68 ∷ 0x61 ∷ 0x73 ∷ 0x69 ∷ 0x6E ∷ 0x76 ∷ []
+
+unfoldable pub testLine : Test → List ℕ
+testLine t =
+    signalWord ++ space ++ registerText (t .first) ++ space ++ relationWord (relationOf (t .letter)) ++ space ++ registerText (t .second) ++ newline
+
+-- the lines of the first n instructions on a page, the first of which writes register r
+unfoldable pub stepLines : ℕ → List ℕ → ℕ → List ℕ
+stepLines r page zero = []
+stepLines r page (suc n) = stepLines r page n ++ stepLine (r + n) (instructionAt page n)
+
+abbrev pub refusedText : ℕ → ℕ → List ℕ
+refusedText number place = refusedWord ++ space ++ decimal number ++ space ++ decimal place ++ newline
+
+-- "prints one line, `refused`, number, place, or `accepted` and N ..; after `accepted` come one line a step and the test"
+unfoldable pub answerText : ℕ → Answer → List ℕ → List ℕ
+answerText known (done n) page =
+    acceptedWord ++ space ++ decimal n ++ newline ++ stepLines (known + 1) page n ++ testLine (testOf page)
+answerText known (refused number place) page = refusedText number place

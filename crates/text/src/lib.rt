@@ -1,0 +1,196 @@
+// The text that the program `verdict` prints, written into a buffer that the caller lends.
+// Promises: every function is total. What it writes is the text that a definition of specs/ gives, as far as the buffer reaches,
+// no other byte changes, and the result is the place reached (`Puts`).
+use submission::byte;
+use submission::wide;
+use submission::wide16;
+ghost use mathlib.Core.Path.{_≡_};
+ghost use mathlib.Core.List.{[], _∷_};
+ghost use Prim.Native.Nat.{_+_, _<_};
+ghost use Rattle.term.specs.Rule.{wordOf};
+ghost use Rattle.submission.specs.Answer.{done};
+ghost use Rattle.machine.specs.Program.{instructionAt, testOf, relationOf};
+ghost use Rattle.text.specs.Text.{decimal, registerText, secondText, stepLine, stepLines, relationWord, testLine, answerText, refusedText};
+ghost use Rattle.text.specs.Puts.{Puts, IsTriple, answerOf};
+
+// An answer to print.
+pub enum Answered {
+    Accepted(u8),
+    Refused { number: u8, place: u16 },
+}
+
+// One byte; none where the buffer is full.
+fn put(out: &mut [u8], at: usize, b: u8) -> usize
+    ensures { λ r. ⌜ Puts (now (out .entry)) at (b ∷ []) (now (out .exit)) r ⌝ }
+{
+    if at < out.len() {
+        out[at] = b;
+        return at + 1;
+    }
+    at
+}
+
+fn put_word(out: &mut [u8], from: usize, word: &[u8]) -> usize
+    ensures { λ r. ⌜ Puts (now (out .entry)) from (now (word .entry)) (now (out .exit)) r ⌝ }
+{
+    let mut at = from;
+    let mut i = 0;
+    while i < word.len() {
+        at = put(out, at, word[i]);
+        i += 1;
+    }
+    at
+}
+
+fn digit(n: u16) -> u8
+    requires { ⌜ n < 10 ⌝ }
+    ensures { λ r. ⌜ r ≡ 48 + n ⌝ }
+{
+    b'0' + n as u8
+}
+
+// A number in decimal: its last digit stands after the digits of the tenth.
+fn put_number(out: &mut [u8], at: usize, n: u16) -> usize
+    ensures { λ r. ⌜ Puts (now (out .entry)) at (decimal n) (now (out .exit)) r ⌝ }
+{
+    if n < 10 {
+        return put(out, at, digit(n));
+    }
+    let next = put_number(out, at, n / 10);
+    put(out, next, digit(n % 10))
+}
+
+fn put_register(out: &mut [u8], at: usize, r: u16) -> usize
+    ensures { λ e. ⌜ Puts (now (out .entry)) at (registerText r) (now (out .exit)) e ⌝ }
+{
+    let next = put(out, at, b'r');
+    put_number(out, next, r)
+}
+
+fn put_rule(out: &mut [u8], at: usize, rule: u8) -> usize
+    ensures { λ r. ⌜ Puts (now (out .entry)) at (wordOf rule) (now (out .exit)) r ⌝ }
+{
+    match rule {
+        0 => put_word(out, at, b"pair"),
+        1 => put_word(out, at, b"fst"),
+        2 => put_word(out, at, b"snd"),
+        3 => put_word(out, at, b"enc"),
+        4 => put_word(out, at, b"dec"),
+        5 => put_word(out, at, b"enca"),
+        _ => put_word(out, at, b"deca"),
+    }
+}
+
+// A space and the second register, where the rule has two operands.
+fn put_second(out: &mut [u8], at: usize, rule: u8, second: u8) -> usize
+    ensures { λ r. ⌜ Puts (now (out .entry)) at (secondText rule second) (now (out .exit)) r ⌝ }
+{
+    if rule == 1 {
+        return at;
+    }
+    if rule == 2 {
+        return at;
+    }
+    let next = put(out, at, b' ');
+    put_register(out, next, wide16(second))
+}
+
+// Three bytes of a program: an instruction, or its test.
+struct Triple {
+    head: u8,
+    first: u8,
+    second: u8,
+}
+
+fn triple_at(page: &[u8], i: u8) -> Triple
+    ensures { λ r. ⌜ IsTriple (now (page .entry)) i r ⌝ }
+{
+    let at = 3 * wide(i);
+    Triple {
+        head: byte(page, at + 1),
+        first: byte(page, at + 2),
+        second: byte(page, at + 3),
+    }
+}
+
+// The line of instruction i on a page, whose result goes to register r.
+fn put_step(out: &mut [u8], from: usize, r: u16, page: &[u8], i: u8) -> usize
+    ensures { λ e. ⌜ Puts (now (out .entry)) from (stepLine r (instructionAt (now (page .entry)) i)) (now (out .exit)) e ⌝ }
+{
+    let t = triple_at(page, i);
+    let at = put_register(out, from, r);
+    let at = put_word(out, at, b" = ");
+    let at = put_rule(out, at, t.head);
+    let at = put(out, at, b' ');
+    let at = put_register(out, at, wide16(t.first));
+    let at = put_second(out, at, t.head, t.second);
+    put(out, at, b'\n')
+}
+
+// The lines of the first n instructions on a page; the first of them writes register r.
+fn put_steps(out: &mut [u8], from: usize, r: u16, page: &[u8], n: u8) -> usize
+    requires { ⌜ r < 512 ⌝ }
+    ensures { λ e. ⌜ Puts (now (out .entry)) from (stepLines r (now (page .entry)) n) (now (out .exit)) e ⌝ }
+{
+    let mut at = from;
+    let mut i: u8 = 0;
+    while i < n {
+        at = put_step(out, at, r + wide16(i), page, i);
+        i += 1;
+    }
+    at
+}
+
+fn put_relation(out: &mut [u8], at: usize, letter: u8) -> usize
+    ensures { λ r. ⌜ Puts (now (out .entry)) at (relationWord (relationOf letter)) (now (out .exit)) r ⌝ }
+{
+    match letter {
+        b'=' => put_word(out, at, b"="),
+        b'i' => put_word(out, at, b"hasinv"),
+        _ => at,
+    }
+}
+
+fn put_test(out: &mut [u8], from: usize, page: &[u8]) -> usize
+    ensures { λ r. ⌜ Puts (now (out .entry)) from (testLine (testOf (now (page .entry)))) (now (out .exit)) r ⌝ }
+{
+    let t = triple_at(page, byte(page, 0));
+    let at = put_word(out, from, b"signal ");
+    let at = put_register(out, at, wide16(t.first));
+    let at = put(out, at, b' ');
+    let at = put_relation(out, at, t.head);
+    let at = put(out, at, b' ');
+    let at = put_register(out, at, wide16(t.second));
+    put(out, at, b'\n')
+}
+
+// What is printed of an acceptance that carries n, with the program on the page.
+pub fn write_accepted(out: &mut [u8], known: u8, n: u8, page: &[u8]) -> usize
+    ensures { λ r. ⌜ Puts (now (out .entry)) 0 (answerText known (done n) (now (page .entry))) (now (out .exit)) r ⌝ }
+{
+    let at = put_word(out, 0, b"accepted ");
+    let at = put_number(out, at, wide16(n));
+    let at = put(out, at, b'\n');
+    let at = put_steps(out, at, wide16(known) + 1, page, n);
+    put_test(out, at, page)
+}
+
+// What is printed of a refusal.
+pub fn write_refused(out: &mut [u8], number: u8, place: u16) -> usize
+    ensures { λ r. ⌜ Puts (now (out .entry)) 0 (refusedText number place) (now (out .exit)) r ⌝ }
+{
+    let at = put_word(out, 0, b"refused ");
+    let at = put_number(out, at, wide16(number));
+    let at = put(out, at, b' ');
+    let at = put_number(out, at, place);
+    put(out, at, b'\n')
+}
+
+pub fn write_answer(out: &mut [u8], known: u8, answer: Answered, page: &[u8]) -> usize
+    ensures { λ r. ⌜ Puts (now (out .entry)) 0 (answerText known (answerOf answer) (now (page .entry))) (now (out .exit)) r ⌝ }
+{
+    match answer {
+        Answered::Accepted(n) => write_accepted(out, known, n, page),
+        Answered::Refused { number, place } => write_refused(out, number, place),
+    }
+}
