@@ -30,9 +30,9 @@ record Clear (s : List ℕ) : Type 0 where
 pass-8-to-10 : (s : List ℕ) → (andThen (check8 s) (andThen (check9 s) (check10 s)) ≡ passes) ↔
     ((reachable s ≡ false) × (hasSecondWay s (wayOf (wayAt s)) ≡ true) × ((i : ℕ) → i < steps s → undone s i ≡ false))
 pass-8-to-10 s =
-    let a = if-passes (reachable s) 8 (verifying s) in
-    let b = Iff·trans (if-passes _ 9 (verifying s)) (not-not-false (hasSecondWay s (wayOf (wayAt s)))) in
-    let d = Iff·trans (at-passes 10 _) (none-fails (undone s) (steps s)) in (
+    let a = if-passes (reachable s) _ _ in
+    let b = Iff·trans (if-passes _ _ _) (not-not-false (hasSecondWay s (wayOf (wayAt s)))) in
+    let d = Iff·trans (at-passes _ _) (none-fails (undone s) (steps s)) in (
       λ e. let (x, r) = then-passes (check8 s) _ .0 e in let (y, z) = then-passes (check9 s) (check10 s) .0 r in (a .0 x, b .0 y, d .0 z),
       λ (x, y, z). then-passes (check8 s) _ .1 (a .1 x, then-passes (check9 s) (check10 s) .1 (b .1 y, d .1 z)),
     )
@@ -43,7 +43,7 @@ unfolding checkAnswer checks1to10
 all-pass s length n = (down, up)
   where
     page : (check11 s length ≡ passes) ↔ (programLength (steps s) ≤ length)
-    page = Iff·trans (if-passes _ 11 (programLength (steps s))) (ltb-false _ _, le-ltb _ _)
+    page = Iff·trans (if-passes _ _ _) (ltb-false _ _, le-ltb _ _)
 
     down : checkAnswer s length ≡ done n → (n ≡ steps s) × WellFormed s × Clear s × (programLength (steps s) ≤ length)
     down e =

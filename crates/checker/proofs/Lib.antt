@@ -1,6 +1,7 @@
 pub mod Acceptance
 pub mod AcceptanceConditions
 pub mod Examples
+pub mod Long
 pub mod Program
 pub mod Promise
 pub mod PromiseExamples

@@ -23,7 +23,7 @@ use Rattle.derivation.proofs.Register.{entry-register, guess-register, result-r
 use Rattle.machine.specs.Program.{bytesOf, instructionAt, operand}
 use Rattle.machine.specs.Run.{guessed, executed, registers}
 use Rattle.machine.proofs.Program.{instruction-back}
-use Rattle.machine.proofs.Run.{register-kept, register-written, register-entry, register-guess}
+use Rattle.machine.proofs.Registers.{register-kept, register-written, register-entry, register-guess}
 use Rattle.checker.specs.Condition.{rule, first as firstTerm, second, concluded}
 use Rattle.checker.specs.Page.{lowest, instruction, program}
 

@@ -31,7 +31,7 @@ use Rattle.derivation.proofs.Founded.{Sound, sound, founded-iff}
 use Rattle.machine.specs.Program.{bytesOf, relationOf, isTest, badInstruction, badTest, badProgram}
 use Rattle.machine.specs.Run.{atomKind, guessed, holds as relates, signals, signal}
 use Rattle.machine.proofs.Program.{byte-count, test-back, program-passes}
-use Rattle.machine.proofs.Run.{register-entry, register-guess, says-equal, says-inverse}
+use Rattle.machine.proofs.Registers.{register-entry, register-guess, says-equal, says-inverse}
 use Rattle.checker.specs.Check.{hasSecondWay}
 use Rattle.checker.specs.Condition.{WellFormed, FiveConditions, Differs, SecondWay, UndoesNone, rule, first, second, concluded}
 use Rattle.checker.specs.Page.{lowest, instruction, program, testOf, testLetter, testSecond}

@@ -1,1 +1,588 @@
 // The machine that runs a register program over terms.
+// Promises: every function is total, for all bytes, and its answer is what the definitions of specs/ give.
+use submission::Stage;
+ghost use mathlib.Core.Path.{_≡_};
+ghost use mathlib.Core.Bool.{false, cond};
+ghost use mathlib.Core.List.{[]};
+ghost use Prim.Native.Nat.{_+_, _*_, _≤_, _<_};
+ghost use Rattle.base.specs.First.{first, any};
+ghost use Rattle.term.specs.Term.{part, node as term, test};
+ghost use Rattle.term.specs.Reduce.{match?, paired as pairedTerm, parted as partedTerm, cancelled as cancelledTerm};
+ghost use Rattle.term.specs.Rule.{headOf, hasOne};
+ghost use Rattle.term.proofs.Table.{choose};
+ghost use Rattle.submission.specs.Answer.{done, answered};
+ghost use Rattle.submission.specs.Stage.{checkOf};
+ghost use Rattle.submission.specs.Contents.{byte as byteAt};
+ghost use Rattle.submission.specs.Record.{terms as termCount, entries as entryCount, recordAt};
+ghost use Rattle.submission.proofs.Listed.{Listed, Claimed};
+ghost use Rattle.machine.specs.Program.{instructionAt, operand, testOf, badInstruction, badTest, badProgram};
+ghost use Rattle.machine.specs.Run.{executed as executedTerm, signals, runAnswer};
+ghost use Rattle.machine.specs.Code.{instructionOf, testIn, cipherOf, sideOf, answerOf, nodeFor, nodeIn, sameNode, partsOfOne, inverseNodes, isNode, foundOf, termAt, values, Sound, Executable, Fit, Has, Ready, Stored, Gives, knowledge, Loaded, Started, Running, Testable};
+
+// One instruction: a rule and two registers.
+pub struct Instruction {
+    pub rule: u8,
+    pub first: u8,
+    pub second: u8,
+}
+
+// The test that ends a program: a letter and two registers.
+pub struct Test {
+    pub letter: u8,
+    pub first: u8,
+    pub second: u8,
+}
+
+pub fn instruction_at(program: &[u8], i: u8) -> Instruction
+    ensures { λ r. ⌜ instructionOf r ≡ instructionAt (now (program .entry)) i ⌝ }
+{
+    let at = 3 * submission::wide(i);
+    Instruction {
+        rule: submission::byte(program, at + 1),
+        first: submission::byte(program, at + 2),
+        second: submission::byte(program, at + 3),
+    }
+}
+
+pub fn test_of(program: &[u8]) -> Test
+    ensures { λ r. ⌜ testIn r ≡ testOf (now (program .entry)) ⌝ }
+{
+    let at = 3 * submission::wide(submission::byte(program, 0));
+    Test {
+        letter: submission::byte(program, at + 1),
+        first: submission::byte(program, at + 2),
+        second: submission::byte(program, at + 3),
+    }
+}
+
+// Whether the rule has one operand.
+fn has_one(rule: u8) -> bool
+    ensures { λ r. ⌜ r ≡ hasOne rule ⌝ }
+{
+    if rule == 1 {
+        return true;
+    }
+    rule == 2
+}
+
+// Whether the instruction is bad, with the first `written` registers written before it.
+fn is_bad_instruction(i: Instruction, written: usize) -> bool
+    ensures { λ r. ⌜ r ≡ badInstruction written (instructionOf i) ⌝ }
+{
+    if 6 < i.rule {
+        return true;
+    }
+    if written <= submission::wide(i.first) {
+        return true;
+    }
+    if has_one(i.rule) {
+        return i.second != 0;
+    }
+    written <= submission::wide(i.second)
+}
+
+fn is_bad_test(t: Test, written: usize) -> bool
+    ensures { λ r. ⌜ r ≡ badTest written (testIn t) ⌝ }
+{
+    if written <= submission::wide(t.first) {
+        return true;
+    }
+    if written <= submission::wide(t.second) {
+        return true;
+    }
+    if t.letter == b'=' {
+        return false;
+    }
+    t.letter != b'i'
+}
+
+// Whether some instruction is bad, where `known` registers hold the knowledge.
+fn has_bad_instruction(program: &[u8], known: u8) -> bool
+    ensures { λ r. ⌜ r ≡ any (λ i. badInstruction (known + 1 + i) (instructionAt (now (program .entry)) i)) (byteAt (now (program .entry)) 0) ⌝ }
+{
+    let n = submission::byte(program, 0);
+    for i in 0..n {
+        let written = submission::wide(known) + 1 + submission::wide(i);
+        if is_bad_instruction(instruction_at(program, i), written) {
+            return true;
+        }
+    }
+    false
+}
+
+// Row 13 of the verdicts.
+pub fn is_bad_program(s: &[u8], program: &[u8]) -> bool
+    ensures { λ r. ⌜ r ≡ badProgram (now (s .entry)) (now (program .entry)) ⌝ }
+{
+    if program.len() == 0 {
+        return true;
+    }
+    let n = submission::byte(program, 0);
+    if 128 < n {
+        return true;
+    }
+    if program.len() != 3 * submission::wide(n) + 4 {
+        return true;
+    }
+    let known = submission::entries(s);
+    if has_bad_instruction(program, known) {
+        return true;
+    }
+    is_bad_test(
+        test_of(program),
+        submission::wide(known) + 1 + submission::wide(n),
+    )
+}
+
+// The rules' numbers, and the heads of keys.
+const PAIR: u8 = 0;
+
+const FST: u8 = 1;
+
+const SND: u8 = 2;
+
+const ENC: u8 = 3;
+
+const DEC: u8 = 4;
+
+const ENCA: u8 = 5;
+
+const DECA: u8 = 6;
+
+const PUBLIC: u8 = 130;
+
+const PRIVATE: u8 = 131;
+
+// A term as a node. A head below 128 is a rule's number, and the node is that rule's word over two nodes; fst and snd have their node twice.
+// Other heads are those of atoms, 128 and the kind, with the name on the left.
+pub struct Node {
+    pub head: u8,
+    pub left: u16,
+    pub right: u16,
+}
+
+// The state: nodes, no two of them equal, each after the nodes that it is over; and registers, which hold nodes' numbers.
+pub struct Machine {
+    pub heads: [u8; 384],
+    pub lefts: [u16; 384],
+    pub rights: [u16; 384],
+    pub nodes: u16,
+    pub registers: [u16; 256],
+    pub used: u16,
+}
+
+// What looking for a node finds.
+pub enum Found {
+    At(u16),
+    Nothing,
+}
+
+// The state with a node in it, and the node's number.
+pub struct Interned {
+    pub machine: Machine,
+    pub number: u16,
+}
+
+// enc and dec take one key, enca and deca a key and its inverse.
+pub enum Cipher {
+    Symmetric,
+    Asymmetric,
+}
+
+pub enum Side {
+    Left,
+    Right,
+}
+
+pub enum Outcome {
+    Signal(u8),
+    Refused { number: u8, place: u16 },
+}
+
+fn index(n: u16) -> usize
+    ensures { λ r. ⌜ r ≡ n ⌝ }
+{
+    n as usize
+}
+
+// Whether a node with this head and these parts is v.
+fn is_same(head: u8, left: u16, right: u16, v: Node) -> bool
+    ensures { λ r. ⌜ r ≡ sameNode (record { head = head; left = left; right = right }) v ⌝ }
+{
+    if head != v.head {
+        return false;
+    }
+    if left != v.left {
+        return false;
+    }
+    right == v.right
+}
+
+// Whether a and b are keys, one public and one private, of one name.
+fn are_inverse(a: Node, b: Node) -> bool
+    ensures { λ r. ⌜ r ≡ inverseNodes a b ⌝ }
+{
+    if a.left != b.left {
+        return false;
+    }
+    if a.head == PUBLIC {
+        return b.head == PRIVATE;
+    }
+    if a.head == PRIVATE {
+        return b.head == PUBLIC;
+    }
+    false
+}
+
+// Whether x is the first part of a node and y the second part of the same.
+fn are_parts(x: Node, y: Node) -> bool
+    ensures { λ r. ⌜ r ≡ partsOfOne x y ⌝ }
+{
+    if x.head != FST {
+        return false;
+    }
+    if y.head != SND {
+        return false;
+    }
+    x.left == y.left
+}
+
+fn chosen(side: Side, left: u16, right: u16) -> u16
+    ensures { λ r. ⌜ r ≡ choose (sideOf side) left right ⌝ }
+{
+    match side {
+        Side::Left => left,
+        Side::Right => right,
+    }
+}
+
+// The register of the second operand.
+fn operand_of(i: Instruction) -> u8
+    ensures { λ r. ⌜ r ≡ operand (instructionOf i) ⌝ }
+{
+    if has_one(i.rule) { i.first } else { i.second }
+}
+
+impl Machine {
+    fn node(self, n: u16) -> Node
+        requires { ⌜ n < 384 ⌝ }
+        ensures { λ r. ⌜ r ≡ nodeIn self n ⌝ }
+    {
+        let i = index(n);
+        Node {
+            head: self.heads[i],
+            left: self.lefts[i],
+            right: self.rights[i],
+        }
+    }
+
+    fn find(self, v: Node) -> Found
+        requires { ⌜ self .nodes ≤ 384 ⌝ }
+        ensures { λ r. ⌜ r ≡ foundOf (first (isNode self v) (self .nodes)) ⌝ }
+    {
+        let n = self.nodes;
+        for i in 0..n {
+            let k = index(i);
+            if is_same(self.heads[k], self.lefts[k], self.rights[k], v) {
+                return Found::At(i);
+            }
+        }
+        Found::Nothing
+    }
+
+    // The state with the node v, which is added where it is not there.
+    fn intern(self, v: Node) -> Interned
+        requires { ⌜ Fit self v ⌝ }
+        ensures { λ r. ⌜ Has self v r ⌝ }
+    {
+        let found = self.find(v);
+        let Found::At(i) = found else {
+            let mut m = self;
+            let n = m.nodes;
+            let k = index(n);
+            m.heads[k] = v.head;
+            m.lefts[k] = v.left;
+            m.rights[k] = v.right;
+            m.nodes = n + 1;
+            return Interned {
+                machine: m,
+                number: n,
+            };
+        };
+        Interned {
+            machine: self,
+            number: i,
+        }
+    }
+
+    // The state with the node n in the next register.
+    fn with_register(self, n: u16) -> Self
+        requires { ⌜ Sound self ⌝ }
+        requires { ⌜ n < self .nodes ⌝ }
+        requires { ⌜ self .used < 256 ⌝ }
+        ensures { λ r. ⌜ Stored self n r ⌝ }
+    {
+        let mut m = self;
+        let used = m.used;
+        let i = index(used);
+        m.registers[i] = n;
+        m.used = used + 1;
+        m
+    }
+
+    // The state with the rule's word over a and b in the next register.
+    fn formed(self, rule: u8, a: u16, b: u16) -> Self
+        requires { ⌜ Ready self a b ⌝ }
+        requires { ⌜ rule < 7 ⌝ }
+        ensures { λ r. ⌜ Gives self (term (headOf rule) (termAt self a) (termAt self b)) r ⌝ }
+    {
+        let made = self.intern(Node {
+            head: rule,
+            left: a,
+            right: b,
+        });
+        let m = made.machine;
+        m.with_register(made.number)
+    }
+
+    // Whether k and j are the keys of opposite operations.
+    fn do_match(self, cipher: Cipher, k: u16, j: u16) -> bool
+        requires { ⌜ Sound self ⌝ }
+        requires { ⌜ k < self .nodes ⌝ }
+        requires { ⌜ j < self .nodes ⌝ }
+        requires { ⌜ self .nodes ≤ 384 ⌝ }
+        ensures { λ r. ⌜ r ≡ test (match? (cipherOf cipher) (termAt self k) (termAt self j)) ⌝ }
+    {
+        match cipher {
+            Cipher::Symmetric => k == j,
+            Cipher::Asymmetric => are_inverse(self.node(k), self.node(j)),
+        }
+    }
+
+    // The rule pair: the first and the second part of one term give that term.
+    fn paired(self, a: u16, b: u16) -> Self
+        requires { ⌜ Ready self a b ⌝ }
+        ensures { λ r. ⌜ Gives self (pairedTerm (termAt self a) (termAt self b)) r ⌝ }
+    {
+        let x = self.node(a);
+        let y = self.node(b);
+        if are_parts(x, y) {
+            return self.with_register(x.left);
+        }
+        self.formed(PAIR, a, b)
+    }
+
+    // The rules fst and snd: a pair gives its part.
+    fn parted(self, side: Side, rule: u8, a: u16) -> Self
+        requires { ⌜ Ready self a a ⌝ }
+        requires { ⌜ rule < 7 ⌝ }
+        requires { ⌜ headOf rule ≡ part (sideOf side) ⌝ }
+        ensures { λ r. ⌜ Gives self (partedTerm (sideOf side) (termAt self a) (termAt self a)) r ⌝ }
+    {
+        let x = self.node(a);
+        if x.head != PAIR {
+            return self.formed(rule, a, a);
+        }
+        self.with_register(chosen(side, x.left, x.right))
+    }
+
+    // A rule that cancels another: over a node of that other rule, under a key that goes with b, it gives the operand.
+    fn cancelled(self, cipher: Cipher, inner: u8, outer: u8, a: u16, b: u16) -> Self
+        requires { ⌜ Ready self a b ⌝ }
+        requires { ⌜ inner < 7 ⌝ }
+        requires { ⌜ outer < 7 ⌝ }
+        ensures { λ r. ⌜ Gives self (cancelledTerm (cipherOf cipher) (headOf inner) (headOf outer) (termAt self a) (termAt self b)) r ⌝ }
+    {
+        let x = self.node(a);
+        if x.head != inner {
+            return self.formed(outer, a, b);
+        }
+        if self.do_match(cipher, x.right, b) {
+            return self.with_register(x.left);
+        }
+        self.formed(outer, a, b)
+    }
+
+    // Executes one instruction: its result goes to the next register.
+    pub fn step(self, i: Instruction) -> Self
+        requires { ⌜ Executable self (instructionOf i) ⌝ }
+        ensures { λ r. ⌜ Gives self (executedTerm (values self) (instructionOf i)) r ⌝ }
+    {
+        let p = submission::wide(i.first);
+        let q = submission::wide(operand_of(i));
+        let a = self.registers[p];
+        let b = self.registers[q];
+        let rule = i.rule;
+        match rule {
+            PAIR => self.paired(a, b),
+            FST => self.parted(Side::Left, FST, a),
+            SND => self.parted(Side::Right, SND, a),
+            ENC => self.cancelled(Cipher::Symmetric, DEC, ENC, a, b),
+            DEC => self.cancelled(Cipher::Symmetric, ENC, DEC, a, b),
+            ENCA => self.cancelled(Cipher::Asymmetric, DECA, ENCA, a, b),
+            _ => self.cancelled(Cipher::Asymmetric, ENCA, DECA, a, b),
+        }
+    }
+}
+
+fn empty() -> Machine
+    ensures { λ r. ⌜ r .used ≡ 0 ⌝ }
+{
+    Machine {
+        heads: [0u8; 384],
+        lefts: [0u16; 384],
+        rights: [0u16; 384],
+        nodes: 0,
+        registers: [0u16; 256],
+        used: 0,
+    }
+}
+
+// The node of a term's record.
+fn node_of(s: &[u8], t: u8) -> Node
+    requires { ⌜ Listed (now s) ⌝ }
+    requires { ⌜ t < termCount (now s) ⌝ }
+    ensures { λ r. ⌜ r ≡ nodeFor (recordAt (now (s .entry)) t) ⌝ }
+{
+    let term = submission::term_at(s, t);
+    let kind = term.kind;
+    let x = submission::wide16(term.x);
+    let y = submission::wide16(term.y);
+    match kind {
+        4 => Node {
+            head: PAIR,
+            left: x,
+            right: y,
+        },
+        5 => Node {
+            head: ENC,
+            left: x,
+            right: y,
+        },
+        6 => Node {
+            head: ENCA,
+            left: x,
+            right: y,
+        },
+        _ => Node {
+            head: 128 + kind,
+            left: x * 256 + y,
+            right: 0,
+        },
+    }
+}
+
+// The state that holds the terms, each under its own number.
+fn with_terms(s: &[u8]) -> Machine
+    requires { ⌜ Listed (now s) ⌝ }
+    ensures { λ r. ⌜ Loaded (now (s .entry)) [] r ⌝ }
+{
+    let mut m = empty();
+    let n = submission::terms(s);
+    for t in 0..n {
+        let v = node_of(s, t);
+        let k = submission::wide(t);
+        m.heads[k] = v.head;
+        m.lefts[k] = v.left;
+        m.rights[k] = v.right;
+    }
+    m.nodes = submission::wide16(n);
+    m
+}
+
+// .. and the knowledge, in the first registers.
+fn with_knowledge(s: &[u8]) -> Machine
+    requires { ⌜ Listed (now s) ⌝ }
+    ensures { λ r. ⌜ Loaded (now (s .entry)) (knowledge (now (s .entry)) (entryCount (now (s .entry)))) r ⌝ }
+{
+    let mut m = with_terms(s);
+    let n = submission::entries(s);
+    for i in 0..n {
+        m = m.with_register(submission::wide16(submission::entry_at(s, i)));
+    }
+    m
+}
+
+// The state before the first instruction: the guess register holds the atom of the guess's kind with this name.
+fn initial(s: &[u8], name: u16) -> Machine
+    requires { ⌜ Claimed (now s) ⌝ }
+    ensures { λ r. ⌜ Started (now (s .entry)) name r ⌝ }
+{
+    let m = with_knowledge(s);
+    let claim = submission::claim_of(s);
+    let guess = submission::term_at(s, claim.guess);
+    let made = m.intern(Node {
+        head: 128 + guess.kind,
+        left: name,
+        right: 0,
+    });
+    let g = made.machine;
+    g.with_register(made.number)
+}
+
+// The state after all instructions.
+fn executed(s: &[u8], name: u16, program: &[u8]) -> Machine
+    requires { ⌜ Claimed (now s) ⌝ }
+    requires { ⌜ badProgram (now s) (now program) ≡ false ⌝ }
+    ensures { λ r. ⌜ Running (now (s .entry)) name (now (program .entry)) (byteAt (now (program .entry)) 0) r ⌝ }
+{
+    let mut m = initial(s, name);
+    let n = submission::byte(program, 0);
+    for i in 0..n {
+        m = m.step(instruction_at(program, i));
+    }
+    m
+}
+
+fn bit(b: bool) -> u8
+    ensures { λ r. ⌜ r ≡ cond b 1 0 ⌝ }
+{
+    if b { 1 } else { 0 }
+}
+
+// The signal of the program's test.
+fn signal(program: &[u8], m: Machine) -> u8
+    requires { ⌜ Testable m (testOf (now program)) ⌝ }
+    ensures { λ r. ⌜ r ≡ cond (signals (values m) (testOf (now (program .entry)))) 1 0 ⌝ }
+{
+    let t = test_of(program);
+    let p = submission::wide(t.first);
+    let q = submission::wide(t.second);
+    let a = m.registers[p];
+    let b = m.registers[q];
+    if t.letter == b'=' {
+        return bit(a == b);
+    }
+    if t.letter == b'i' {
+        return bit(m.do_match(Cipher::Asymmetric, a, b));
+    }
+    0
+}
+
+// A stage's refusal as the outcome.
+fn refused(stage: Stage) -> Outcome
+    ensures { λ r. ⌜ answerOf r ≡ answered (checkOf stage) (done 0) ⌝ }
+{
+    match stage {
+        Stage::Passed => Outcome::Signal(0),
+        Stage::Refused { number, place } => Outcome::Refused { number, place },
+    }
+}
+
+// The signal of a program on a submission, with a name for the guess; or the refusal of the first of checks 1 to 5 and 13 that fails.
+pub fn run(s: &[u8], name: u16, program: &[u8]) -> Outcome
+    ensures { λ r. ⌜ answerOf r ≡ runAnswer (now (s .entry)) name (now (program .entry)) ⌝ }
+{
+    let reading = submission::check_reading(s);
+    let Stage::Passed = reading else {
+        return refused(reading);
+    };
+    if is_bad_program(s, program) {
+        return Outcome::Refused {
+            number: 13,
+            place: 0,
+        };
+    }
+    let m = executed(s, name, program);
+    Outcome::Signal(signal(program, m))
+}
