@@ -1,0 +1,138 @@
+//! Submissions with something changed: a record, an entry, a step, the claim, or plain bytes.
+
+use super::random::Random;
+use super::steps::{around, builds};
+use super::table::Table;
+use crate::bodies::Bodies;
+
+/// The bodies with one change to their records.
+pub fn changed_records(random: &mut Random, bodies: &Bodies) -> Bodies {
+    let mut changed = bodies.clone();
+    let change = [
+        change_term,
+        repeat_term,
+        change_knowledge,
+        change_step,
+        move_step,
+        repeat_step,
+        undo_step,
+        change_claim,
+    ][random.weighted(&[12, 6, 18, 16, 10, 6, 18, 14])];
+    change(random, &mut changed);
+    changed
+}
+
+/// The bytes with one change anywhere: a byte, the length, or the contents.
+pub fn changed_bytes(random: &mut Random, submission: &[u8]) -> Vec<u8> {
+    let mut changed = submission.to_vec();
+    match random.weighted(&[40, 25, 15, 20]) {
+        0 => change_byte(random, &mut changed),
+        1 => changed.truncate(random.below(submission.len())),
+        2 => {
+            let count = random.between(1, 5);
+            changed.extend(random.bytes(count));
+        }
+        _ => {
+            let at = random.below(16);
+            changed[at] = changed[at].wrapping_add(random.pick(&[1, 255, 32, 4, 252]));
+        }
+    }
+    changed
+}
+
+/// Sets one byte to a small number, one that is close by, or any.
+pub fn change_byte(random: &mut Random, bytes: &mut [u8]) {
+    let at = random.below(bytes.len());
+    bytes[at] = match random.below(4) {
+        0 => random.below(8) as u8,
+        1 => bytes[at].wrapping_add(1),
+        2 => bytes[at].wrapping_sub(1),
+        _ => random.byte(),
+    };
+}
+
+fn change_term(random: &mut Random, bodies: &mut Bodies) {
+    let at = random.below(bodies.terms.len());
+    change_byte(random, &mut bodies.terms[at]);
+}
+
+fn repeat_term(random: &mut Random, bodies: &mut Bodies) {
+    let record = random.pick(&bodies.terms);
+    bodies.terms.push(record);
+}
+
+fn change_knowledge(random: &mut Random, bodies: &mut Bodies) {
+    let count = bodies.knowledge.len();
+    match random.below(if count == 0 { 2 } else { 5 }) {
+        0 => bodies.knowledge.push(random.below(bodies.terms.len()) as u8),
+        1 => bodies.knowledge.insert(random.below(count + 1), bodies.claim[0]),
+        2 => drop(bodies.knowledge.remove(random.below(count))),
+        3 => {
+            let entry = random.pick(&bodies.knowledge);
+            bodies.knowledge.push(entry);
+        }
+        _ => bodies.knowledge[random.below(count)] = bodies.terms.len() as u8,
+    }
+}
+
+fn change_step(random: &mut Random, bodies: &mut Bodies) {
+    if !bodies.derivation.is_empty() {
+        let at = random.below(bodies.derivation.len());
+        change_byte(random, &mut bodies.derivation[at]);
+    }
+}
+
+/// Moves a step, or leaves it out.
+fn move_step(random: &mut Random, bodies: &mut Bodies) {
+    if bodies.derivation.is_empty() {
+        return;
+    }
+    let step = bodies.derivation.remove(random.below(bodies.derivation.len()));
+    if random.chance(60) {
+        insert_step(random, bodies, step);
+    }
+}
+
+fn repeat_step(random: &mut Random, bodies: &mut Bodies) {
+    if !bodies.derivation.is_empty() {
+        let step = random.pick(&bodies.derivation);
+        insert_step(random, bodies, step);
+    }
+}
+
+fn insert_step(random: &mut Random, bodies: &mut Bodies, step: [u8; 4]) {
+    bodies.derivation.insert(random.below(bodies.derivation.len() + 1), step);
+}
+
+/// Adds a step that one of the derivation undoes, or that undoes it: before, after or at the end.
+fn undo_step(random: &mut Random, bodies: &mut Bodies) {
+    if bodies.derivation.is_empty() {
+        return;
+    }
+    let step = random.pick(&bodies.derivation);
+    let compound = if builds(step) { step[3] } else { step[1] };
+    let opposite: Vec<[u8; 4]> = around(&Table::of(&bodies.terms), compound)
+        .into_iter()
+        .filter(|&other| builds(other) != builds(step))
+        .collect();
+    if opposite.is_empty() {
+        return;
+    }
+    let added = random.pick(&opposite);
+    if random.chance(60) {
+        bodies.derivation.push(added);
+    } else {
+        insert_step(random, bodies, added);
+    }
+}
+
+fn change_claim(random: &mut Random, bodies: &mut Bodies) {
+    let count = bodies.terms.len().max(bodies.derivation.len());
+    match random.below(5) {
+        0 => bodies.claim[0] = random.below(count + 1) as u8,
+        1 => bodies.claim[1] = random.below(bodies.derivation.len() + 1) as u8,
+        2 => bodies.claim[2] = random.pick(b"abcAd"),
+        3 => bodies.claim[3] = random.below(count + 1) as u8,
+        _ => change_byte(random, &mut bodies.claim),
+    }
+}

@@ -1,0 +1,194 @@
+//! Submissions, pages and programs to compare the checker with the reference on. One seed gives
+//! one sequence of inputs.
+
+mod damage;
+mod limits;
+mod program;
+mod protocol;
+mod random;
+pub mod shapes;
+mod steps;
+mod table;
+
+use crate::bodies::Bodies;
+use crate::reference::{self, contents, program_length};
+use program::Registers;
+use protocol::{protocol, Size};
+use random::Random;
+use shapes::Order;
+
+pub use limits::{padded, LONGEST_PAGE, MOST_STEPS, MOST_TERMS};
+
+/// What one round of the comparison uses.
+pub struct Input {
+    pub submission: Vec<u8>,
+    /// The page before the check.
+    pub page: Vec<u8>,
+    /// Term numbers to ask for.
+    pub asked: Vec<u8>,
+    /// Names and programs to run.
+    pub runs: Vec<(u16, Vec<u8>)>,
+    /// Names that may be those of wrong guesses.
+    pub names: Vec<u16>,
+}
+
+/// How many protocols are kept for changing them.
+const KEPT: usize = 64;
+
+pub struct Source {
+    random: Random,
+    kept: Vec<Bodies>,
+}
+
+impl Source {
+    pub fn new(seed: u64) -> Source {
+        let mut random = Random::new(seed);
+        let kept = (0..KEPT).map(|_| fresh(&mut random)).collect();
+        Source { random, kept }
+    }
+
+    pub fn next_input(&mut self) -> Input {
+        let submission = self.submission();
+        self.input(submission)
+    }
+
+    /// What to try with this submission.
+    pub fn input(&mut self, submission: Vec<u8>) -> Input {
+        let page = self.page(&submission);
+        Input {
+            asked: (0..4).map(|_| self.asked(&submission)).collect(),
+            runs: self.runs(&submission),
+            names: (0..4).map(|_| self.name(&submission)).collect(),
+            submission,
+            page,
+        }
+    }
+
+    fn submission(&mut self) -> Vec<u8> {
+        match self.random.weighted(&[500, 280, 120, 40, 10, 40, 10]) {
+            0 => self.protocol().submission(),
+            1 => self.changed().submission(),
+            2 => {
+                let submission = self.kept().submission();
+                damage::changed_bytes(&mut self.random, &submission)
+            }
+            3 => self.near_limits().submission(),
+            4 => {
+                let bodies = self.kept().clone();
+                limits::wild_counts(&mut self.random, &bodies)
+            }
+            5 => self.noise(),
+            _ => self.shape().submission(),
+        }
+    }
+
+    /// A new protocol, which takes the place of one that was kept.
+    fn protocol(&mut self) -> Bodies {
+        let bodies = fresh(&mut self.random);
+        let place = self.random.below(KEPT);
+        self.kept[place] = bodies.clone();
+        bodies
+    }
+
+    fn kept(&mut self) -> &Bodies {
+        &self.kept[self.random.below(KEPT)]
+    }
+
+    /// A kept protocol with one or two changes.
+    fn changed(&mut self) -> Bodies {
+        let bodies = self.kept().clone();
+        let once = damage::changed_records(&mut self.random, &bodies);
+        if self.random.chance(80) {
+            return once;
+        }
+        damage::changed_records(&mut self.random, &once)
+    }
+
+    /// A kept protocol padded to a limit, perhaps with a change.
+    fn near_limits(&mut self) -> Bodies {
+        let bodies = self.kept().clone();
+        let padded = limits::near_limits(&mut self.random, &bodies);
+        if self.random.chance(60) {
+            return padded;
+        }
+        damage::changed_records(&mut self.random, &padded)
+    }
+
+    /// Plain bytes, or one record of plain bytes in each body.
+    fn noise(&mut self) -> Vec<u8> {
+        if self.random.chance(50) {
+            let [terms, knowledge, derivation, claim] =
+                [3, 1, 4, 4].map(|size| self.random.bytes(size));
+            return contents::submission([&terms, &knowledge, &derivation, &claim]);
+        }
+        let length = self.random.below(40);
+        self.random.bytes(length)
+    }
+
+    fn shape(&mut self) -> Bodies {
+        let size = self.random.between(4, MOST_TERMS);
+        let order = self.random.pick(&[Order::Rising, Order::Falling]);
+        match self.random.below(6) {
+            0 => shapes::doubling_known(size),
+            1 => shapes::doubling_asked(size),
+            2 => shapes::private_key_chain(size / 4, order),
+            3 => shapes::plain_key_chain(size / 5, self.random.below(70), order),
+            4 => shapes::nested_pairs(size / 2, self.random.below(size / 4), size / 5),
+            _ => shapes::largest(),
+        }
+    }
+
+    /// A page of random bytes: too short by one, exact, or longer.
+    fn page(&mut self, submission: &[u8]) -> Vec<u8> {
+        let steps = Bodies::read(submission).map_or(0, |bodies| bodies.derivation.len());
+        let exact = program_length(steps);
+        let length = match self.random.weighted(&[6, 2, 40, 40, 12]) {
+            0 => exact - 1,
+            1 => self.random.below(exact),
+            2 => exact,
+            3 => exact + self.random.between(1, 20),
+            _ => LONGEST_PAGE,
+        };
+        self.random.bytes(length)
+    }
+
+    fn asked(&mut self, submission: &[u8]) -> u8 {
+        match Bodies::read(submission) {
+            Ok(bodies) if self.random.chance(95) => self.random.below(bodies.terms.len() + 1) as u8,
+            _ => self.random.byte(),
+        }
+    }
+
+    /// Runs with the submission's own program, changed ones, and others.
+    fn runs(&mut self, submission: &[u8]) -> Vec<(u16, Vec<u8>)> {
+        let bodies = Bodies::read(submission).unwrap_or_default();
+        let valid = program::valid(&mut self.random, &Registers::of(&bodies));
+        let mut programs = vec![program::damaged(&mut self.random, &valid), valid];
+        if let Ok(own) = reference::program(submission) {
+            programs.push(program::damaged(&mut self.random, &own));
+            programs.push(own);
+        }
+        programs.into_iter().map(|program| (self.name(submission), program)).collect()
+    }
+
+    /// The guess's own name, that of a listed atom, or any.
+    fn name(&mut self, submission: &[u8]) -> u16 {
+        let own = reference::guess(submission).map_or(0, |(_, name)| name);
+        match self.random.weighted(&[30, 40, 10, 20]) {
+            0 => own,
+            1 => own.wrapping_add(self.random.below(8) as u16),
+            2 => self.random.pick(&[0, 1, u16::MAX]),
+            _ => self.random.number() as u16,
+        }
+    }
+}
+
+/// A new protocol of some size, small ones more often.
+fn fresh(random: &mut Random) -> Bodies {
+    let size = match random.weighted(&[70, 25, 5]) {
+        0 => Size { compounds: 8, steps: 8 },
+        1 => Size { compounds: 30, steps: 25 },
+        _ => Size { compounds: 150, steps: 128 },
+    };
+    protocol(random, &size)
+}

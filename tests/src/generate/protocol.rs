@@ -1,0 +1,264 @@
+//! Random protocols: atoms, messages over them, a guess, what is overheard, a founded derivation,
+//! and a claim that the reference accepts where one is found.
+
+use super::limits::MOST_KNOWLEDGE;
+use super::random::Random;
+use super::steps::{builds, possible, premises, Known};
+use super::table::{Table, ENC, ENCA, PAIR, PLAIN, PRIVATE, PUBLIC};
+use crate::bodies::Bodies;
+use crate::reference;
+
+/// The most counts of a protocol.
+pub struct Size {
+    pub compounds: usize,
+    pub steps: usize,
+}
+
+/// How many protocols are tried for one that is accepted, and how many claims for each.
+const PROTOCOLS: usize = 4;
+const CLAIMS: usize = 8;
+
+/// A protocol, in most cases one that is accepted in a way chosen beforehand.
+pub fn protocol(random: &mut Random, size: &Size) -> Bodies {
+    let way = random.pick(b"abc");
+    let mut bodies = one_protocol(random, size, way);
+    if random.chance(75) {
+        for _ in 1..PROTOCOLS {
+            if bodies.claim[2] == way && is_accepted(&bodies) {
+                break;
+            }
+            bodies = one_protocol(random, size, way);
+        }
+    }
+    bodies
+}
+
+fn one_protocol(random: &mut Random, size: &Size, way: u8) -> Bodies {
+    let mut table = Table::default();
+    let guess = atoms(random, &mut table);
+    for _ in 0..random.between(1, size.compounds) {
+        compound(random, &mut table, guess);
+    }
+    let telling = telling_messages(random, &mut table, guess, way);
+    let knowledge = overheard(random, &table, guess, &telling);
+    let derivation = walk(random, &table, &knowledge, guess, size.steps);
+    let mut bodies = Bodies { terms: table.records.clone(), knowledge, derivation, claim: [0; 4] };
+    bodies.claim = claim(random, &bodies, &table, guess, way);
+    bodies
+}
+
+/// Lists atoms with few names, so that keys have inverses and kinds share names. Answers the guess.
+fn atoms(random: &mut Random, table: &mut Table) -> u8 {
+    let base = random.number() as u16;
+    for _ in 0..random.between(1, 5) {
+        let name = base.wrapping_add(random.below(6) as u16);
+        table.atom(PLAIN, name);
+    }
+    for _ in 0..random.below(4) {
+        let name = base.wrapping_add(random.below(3) as u16);
+        let kind = random.pick(&[PUBLIC, PRIVATE]);
+        table.atom(kind, name);
+    }
+    let kind = random.pick(&[PLAIN, PUBLIC, PRIVATE]);
+    let guess = table.atom(kind, base);
+    if random.chance(80) {
+        table.atom(if kind == PRIVATE { PUBLIC } else { PRIVATE }, base);
+    }
+    guess
+}
+
+/// Lists a compound, often one that the guess opens or that contains the guess.
+fn compound(random: &mut Random, table: &mut Table, guess: u8) {
+    let x = any_term(random, table);
+    let (kind, y) = match random.weighted(&[40, 35, 25]) {
+        0 => (PAIR, Some(any_term(random, table))),
+        1 => (ENC, key(random, table, guess, &[PLAIN])),
+        _ => (ENCA, key(random, table, guess, &[PUBLIC, PRIVATE])),
+    };
+    if let Some(y) = y {
+        table.list([kind, x, y]);
+    }
+}
+
+/// A listed term, often one of the last.
+fn any_term(random: &mut Random, table: &Table) -> u8 {
+    let count = table.records.len();
+    let span = if random.chance(50) { count.min(6) } else { count };
+    (count - 1 - random.below(span)) as u8
+}
+
+/// A listed key of one of the kinds, often the guess or its inverse.
+fn key(random: &mut Random, table: &Table, guess: u8, kinds: &[u8]) -> Option<u8> {
+    let all = table.of_kinds(kinds);
+    let near: Vec<u8> = all
+        .iter()
+        .copied()
+        .filter(|&number| number == guess || table.inverse(guess) == Some(number))
+        .collect();
+    let from = if near.is_empty() || random.chance(35) { all } else { near };
+    (!from.is_empty()).then(|| random.pick(&from))
+}
+
+/// Messages that may verify the guess in this way: two that hide the same term, one that hides a
+/// term that is known, or one that hides a key whose inverse is known or hidden as well.
+fn telling_messages(random: &mut Random, table: &mut Table, guess: u8, way: u8) -> Vec<u8> {
+    match way {
+        b'a' => {
+            let term = any_term(random, table);
+            vec![hidden(random, table, guess, term), hidden(random, table, guess, term)]
+        }
+        b'b' => {
+            let term = any_term(random, table);
+            vec![hidden(random, table, guess, term), term]
+        }
+        _ => {
+            let name = random.number() as u16;
+            let (public, private) = (table.atom(PUBLIC, name), table.atom(PRIVATE, name));
+            let (inside, inverse) = random.pick(&[(public, private), (private, public)]);
+            let message = hidden(random, table, guess, inside);
+            let hide_both = random.chance(50);
+            vec![message, if hide_both { hidden(random, table, guess, inverse) } else { inverse }]
+        }
+    }
+}
+
+/// A message that the guess opens, with the term somewhere in it.
+fn hidden(random: &mut Random, table: &mut Table, guess: u8, term: u8) -> u8 {
+    let mut message = term;
+    for _ in 0..random.below(3) {
+        let beside = any_term(random, table);
+        let (x, y) = random.pick(&[(message, beside), (beside, message)]);
+        message = table.list([PAIR, x, y]);
+    }
+    let [kind, high, low] = table.records[usize::from(guess)];
+    match kind {
+        PLAIN => table.list([ENC, message, guess]),
+        _ => {
+            let key = table.list([PUBLIC + PRIVATE - kind, high, low]);
+            table.list([ENCA, message, key])
+        }
+    }
+}
+
+/// The telling messages and some other terms, compounds rather than atoms, and seldom the guess.
+fn overheard(random: &mut Random, table: &Table, guess: u8, telling: &[u8]) -> Vec<u8> {
+    let mut knowledge: Vec<u8> = table
+        .numbers()
+        .filter(|&number| match table.kind(number) {
+            _ if number == guess => random.chance(2),
+            _ if telling.contains(&number) => true,
+            PAIR | ENC | ENCA => random.chance(30),
+            _ => random.chance(15),
+        })
+        .collect();
+    random.shuffle(&mut knowledge);
+    knowledge.truncate(MOST_KNOWLEDGE);
+    knowledge
+}
+
+/// A founded derivation: steps taken at random among the possible ones.
+fn walk(
+    random: &mut Random,
+    table: &Table,
+    knowledge: &[u8],
+    guess: u8,
+    most: usize,
+) -> Vec<[u8; 4]> {
+    let mut walk = Walk {
+        known: Known::new(table, knowledge.iter().copied().chain([guess])),
+        guessed: Known::new(table, [guess]),
+        steps: Vec::new(),
+    };
+    for _ in 0..random.between(1, most) {
+        let steps = possible(table, &walk.known);
+        let weights: Vec<usize> = steps.iter().map(|&step| walk.weight(step)).collect();
+        if weights.iter().sum::<usize>() == 0 {
+            break;
+        }
+        walk.take(steps[random.weighted(&weights)]);
+    }
+    walk.steps
+}
+
+struct Walk {
+    known: Known,
+    /// What is known by steps that use the guess.
+    guessed: Known,
+    steps: Vec<[u8; 4]>,
+}
+
+impl Walk {
+    fn take(&mut self, step: [u8; 4]) {
+        if self.uses_guess(step) && !self.known.has(step[3]) {
+            self.guessed.add(step[3]);
+        }
+        self.known.add(step[3]);
+        self.steps.push(step);
+    }
+
+    /// Rather take apart than build, rather use the guess, rather reach something new; seldom
+    /// repeat a step.
+    fn weight(&self, step: [u8; 4]) -> usize {
+        if self.steps.contains(&step) {
+            return 1;
+        }
+        let weight = match (builds(step), self.known.has(step[3])) {
+            (false, false) => 40,
+            (false, true) => 30,
+            (true, true) => 15,
+            (true, false) => 3,
+        };
+        if self.uses_guess(step) {
+            8 * weight
+        } else {
+            weight
+        }
+    }
+
+    fn uses_guess(&self, step: [u8; 4]) -> bool {
+        premises(step).iter().any(|&premise| self.guessed.has(premise))
+    }
+}
+
+/// A claim with this guess: one that is accepted in this way if it is found, else one that could
+/// hold, else any.
+fn claim(random: &mut Random, bodies: &Bodies, table: &Table, guess: u8, way: u8) -> [u8; 4] {
+    let mut claims = plausible(bodies, table, guess);
+    random.shuffle(&mut claims);
+    let accepted = claims
+        .iter()
+        .filter(|claim| claim[2] == way)
+        .take(CLAIMS)
+        .find(|&&claim| is_accepted(&Bodies { claim, ..bodies.clone() }));
+    let step = random.below(bodies.derivation.len().max(1)) as u8;
+    let any = [guess, step, way, random.below(4) as u8];
+    *accepted.or(claims.first()).filter(|_| random.chance(92)).unwrap_or(&any)
+}
+
+fn is_accepted(bodies: &Bodies) -> bool {
+    reference::program(&bodies.submission()).is_ok()
+}
+
+/// The claims for which the companion and the conclusion fit together.
+fn plausible(bodies: &Bodies, table: &Table, guess: u8) -> Vec<[u8; 4]> {
+    let derivation = &bodies.derivation;
+    let concludes = |term: u8| derivation.iter().any(|step| step[3] == term);
+    let mut claims = Vec::new();
+    for (number, step) in derivation.iter().enumerate() {
+        let (number, verifier) = (number as u8, step[3]);
+        if bodies.knowledge.contains(&verifier) || verifier == guess {
+            claims.push([guess, number, b'b', 0]);
+        }
+        for (other, companion) in derivation.iter().enumerate() {
+            if companion[3] == verifier && companion != step {
+                claims.push([guess, number, b'a', other as u8]);
+            }
+        }
+        if let Some(inverse) = table.inverse(verifier) {
+            if bodies.knowledge.contains(&inverse) || inverse == guess || concludes(inverse) {
+                claims.push([guess, number, b'c', inverse]);
+            }
+        }
+    }
+    claims
+}

@@ -1,0 +1,43 @@
+//! A readable text for submissions.
+//!
+//! Four sections in this order: `terms`, `knowledge`, `derivation`, `claim`. Blank lines, and
+//! lines that start with `#`, are passed over.
+//!
+//! - Terms, one a line and numbered from 0: an atom is `nb`, `plain 7`, `public ka` or
+//!   `private ka`; a compound is `LABEL = pair(X, Y)`, `enc(X, Y)` or `enca(X, Y)`. Further lines
+//!   name an atom as it is listed, and a compound by its label.
+//! - Knowledge: one term a line.
+//! - Derivation: `NUMBER: CONCLUSION = RULE(PREMISE, PREMISE)`, numbered from 0.
+//! - Claim: the lines `guess TERM`, `step NUMBER`, `way LETTER`, and `companion` with a step number
+//!   (way a) or a term (way c).
+//!
+//! The notation judges nothing, so that a text with a fault can be handed to the checker. What the
+//! words above can't say has plain numbers: `@9` is the term number 9, `LABEL = record 9 0 1` a
+//! term record, `rule9(X, Y)` a rule, and `way 9` a way.
+//!
+//! `show` writes the canonical layout: labels are `t` and the term's number, and no comments.
+
+mod assemble;
+mod name;
+mod show;
+
+pub use assemble::{assemble, Fault};
+pub use show::show;
+
+/// The section headings in order.
+const SECTIONS: [&str; 4] = ["terms", "knowledge", "derivation", "claim"];
+
+/// The words of the compound kinds.
+const COMPOUNDS: [(u8, &str); 3] = [(4, "pair"), (5, "enc"), (6, "enca")];
+
+/// The words of the atom kinds.
+const ATOMS: [(u8, &str); 3] = [(1, "plain"), (2, "public"), (3, "private")];
+
+/// An atom as the canonical layout writes it.
+fn atom_text(kind_word: &str, name: u16) -> String {
+    match name::word(name) {
+        Some(word) if kind_word == "plain" => word,
+        Some(word) => format!("{kind_word} {word}"),
+        None => format!("{kind_word} {name}"),
+    }
+}

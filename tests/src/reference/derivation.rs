@@ -1,0 +1,69 @@
+//! The steps of a derivation: checks 6 and 7.
+
+use std::collections::HashSet;
+
+use super::refusal::{refuse, Checked, Reason};
+use super::rule::{taken_apart, Rule};
+use super::submission::Submission;
+use super::term::Term;
+
+/// A step that passes check 6. The rules fst and snd have one premise, the others two.
+pub struct Step {
+    pub rule: Rule,
+    pub premises: Vec<Term>,
+    pub conclusion: Term,
+}
+
+impl Step {
+    /// Whether one of the two steps builds the compound that the other takes apart.
+    pub fn undoes(&self, other: &Step) -> bool {
+        let (builder, taker) = if self.rule.builds() { (self, other) } else { (other, self) };
+        builder.rule.builds()
+            && !taker.rule.builds()
+            && taker.premises.first() == Some(&builder.conclusion)
+    }
+
+    /// Whether the two steps differ in the rule or in the set of premises.
+    pub fn differs(&self, other: &Step) -> bool {
+        self.rule != other.rule || self.premise_set() != other.premise_set()
+    }
+
+    fn premise_set(&self) -> HashSet<&Term> {
+        self.premises.iter().collect()
+    }
+}
+
+/// The steps, each founded on the knowledge, the guess and the earlier conclusions.
+pub fn founded(submission: &mut Submission, guess: &Term) -> Checked<Vec<Step>> {
+    let mut known: HashSet<Term> = submission.knowledge.iter().cloned().collect();
+    known.insert(guess.clone());
+    let mut steps = Vec::new();
+    for number in 0..submission.derivation.len() {
+        let Some(step) = read_step(submission, submission.derivation[number]) else {
+            return refuse(Reason::Step, number);
+        };
+        if !step.premises.iter().all(|premise| known.contains(premise)) {
+            return refuse(Reason::Unfounded, number);
+        }
+        known.insert(step.conclusion.clone());
+        steps.push(step);
+    }
+    Ok(steps)
+}
+
+fn read_step(submission: &mut Submission, [rule, p, q, conclusion]: [u8; 4]) -> Option<Step> {
+    let rule = Rule::from_number(rule)?;
+    let first = submission.term(p)?.clone();
+    let second = submission.term(q)?.clone();
+    let conclusion = submission.term(conclusion)?.clone();
+    if rule.is_unary() && q != 0 {
+        return None;
+    }
+    let concluded = if rule.builds() {
+        submission.store.headed(rule, &first, &second)
+    } else {
+        taken_apart(rule, &first, &second)?
+    };
+    let premises = if rule.is_unary() { vec![first] } else { vec![first, second] };
+    (concluded == conclusion).then_some(Step { rule, premises, conclusion })
+}

@@ -1,0 +1,82 @@
+//! An independent reading of the requirement, to compare the checker with: terms are trees, sets
+//! are hash sets, and each condition is written as the requirement states it.
+
+mod conditions;
+pub mod contents;
+mod deduction;
+mod derivation;
+mod machine;
+mod program;
+mod refusal;
+mod rule;
+mod submission;
+mod term;
+mod wrong_guess;
+
+use conditions::verified;
+use deduction::Deduction;
+use derivation::founded;
+use program::Program;
+use submission::Submission;
+
+pub use program::program_length;
+pub use refusal::{code, Checked, Reason, Refusal};
+pub use rule::Rule;
+pub use submission::records;
+pub use term::Kind;
+pub use wrong_guess::{guess, is_wrong_guess};
+
+use refusal::refuse;
+
+/// Checks a submission. An acceptance carries the number of steps and writes the program on the
+/// page.
+pub fn check(submission: &[u8], page: &mut [u8]) -> Checked<u8> {
+    let program = program(submission)?;
+    match page.get_mut(..program.len()) {
+        Some(written) => written.copy_from_slice(&program),
+        None => return refuse(Reason::Page, program.len()),
+    }
+    Ok(program[0])
+}
+
+/// The program that checking writes on a page that is long enough.
+pub fn program(submission: &[u8]) -> Checked<Vec<u8>> {
+    Ok(accepted_program(submission)?.bytes())
+}
+
+/// Whether the term with this number is deducible from the knowledge alone.
+pub fn deducible(submission: &[u8], number: u8) -> Checked<bool> {
+    let mut submission = Submission::read(submission)?;
+    let deduction = Deduction::from_knowledge(&mut submission.store, &submission.knowledge);
+    match submission.term(number) {
+        Some(term) => Ok(deduction.reaches(term)),
+        None => refuse(Reason::NoSuchTerm, 0),
+    }
+}
+
+/// The signal of the program when the guess has this name.
+pub fn run(submission: &[u8], name: u16, program: &[u8]) -> Checked<bool> {
+    let mut submission = Submission::read(submission)?;
+    let (kind, _) = submission.claim()?.atom();
+    let mut registers = submission.knowledge;
+    registers.push(submission.store.atom(kind, name));
+    let program = Program::read(program, registers.len())?;
+    Ok(machine::signal(&mut submission.store, registers, &program))
+}
+
+/// What the program `verdict` prints.
+pub fn verdict(submission: &[u8]) -> String {
+    match accepted_program(submission) {
+        Ok(program) => format!("accepted {}\n{program}", program.instructions.len()),
+        Err(Refusal { reason, place }) => format!("refused {} {place}\n", reason.number()),
+    }
+}
+
+/// The program of a submission that passes checks 1 to 10.
+fn accepted_program(submission: &[u8]) -> Checked<Program> {
+    let mut submission = Submission::read(submission)?;
+    let claim = submission.claim()?;
+    let steps = founded(&mut submission, &claim.guess)?;
+    verified(&mut submission, &claim, &steps)?;
+    Ok(Program::of(&submission.knowledge, &claim, &steps))
+}

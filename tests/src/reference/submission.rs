@@ -1,0 +1,122 @@
+//! A submission over tree terms: checks 1 to 5.
+
+use std::collections::HashSet;
+
+use super::contents;
+use super::refusal::{refuse, Checked, Reason};
+use super::term::{Kind, Shape, Store, Term};
+
+/// A submission that passes checks 1 to 4. Derivation and claim are kept as records.
+pub struct Submission {
+    pub store: Store,
+    pub terms: Vec<Term>,
+    pub knowledge: Vec<Term>,
+    pub derivation: Vec<[u8; 4]>,
+    claim: [u8; 4],
+}
+
+/// The second way to the verifier.
+pub enum Way {
+    /// The step with this number concludes it as well.
+    AnotherStep(usize),
+    /// It is in the knowledge, or the guess.
+    KnownBefore,
+    /// It is a key and this is to be its inverse.
+    Inverse(Term),
+}
+
+/// A claim that passes check 5.
+pub struct Claim {
+    pub guess: Term,
+    pub step: usize,
+    pub way: Way,
+}
+
+impl Claim {
+    /// The kind and name of the guess.
+    pub fn atom(&self) -> (Kind, u16) {
+        self.guess.atom().expect("check 5 leaves an atom")
+    }
+}
+
+impl Submission {
+    pub fn read(bytes: &[u8]) -> Checked<Submission> {
+        let [terms, knowledge, derivation, claim] = contents::bodies(bytes)?;
+        let mut store = Store::default();
+        let terms = read_terms(&mut store, terms)?;
+        let knowledge = read_knowledge(&terms, knowledge)?;
+        let derivation = records(derivation).collect();
+        let claim = records(claim).next().expect("check 2 leaves one claim");
+        Ok(Submission { store, terms, knowledge, derivation, claim })
+    }
+
+    pub fn term(&self, number: u8) -> Option<&Term> {
+        self.terms.get(usize::from(number))
+    }
+
+    pub fn claim(&self) -> Checked<Claim> {
+        self.read_claim().map_or_else(|| refuse(Reason::Claim, 0), Ok)
+    }
+
+    fn read_claim(&self) -> Option<Claim> {
+        let [guess, step, way, companion] = self.claim;
+        let guess = self.term(guess).filter(|term| term.atom().is_some())?.clone();
+        let step = self.step(step)?;
+        let way = match way {
+            b'a' => Way::AnotherStep(self.step(companion)?),
+            b'b' if companion == 0 => Way::KnownBefore,
+            b'c' => Way::Inverse(self.term(companion)?.clone()),
+            _ => return None,
+        };
+        Some(Claim { guess, step, way })
+    }
+
+    fn step(&self, number: u8) -> Option<usize> {
+        Some(usize::from(number)).filter(|&step| step < self.derivation.len())
+    }
+}
+
+/// The body's records of `N` bytes each.
+pub fn records<const N: usize>(body: &[u8]) -> impl Iterator<Item = [u8; N]> + '_ {
+    body.chunks_exact(N).map(|record| record.try_into().expect("a chunk of N bytes"))
+}
+
+/// Check 3.
+fn read_terms(store: &mut Store, body: &[u8]) -> Checked<Vec<Term>> {
+    let mut terms = Vec::new();
+    let mut seen = HashSet::new();
+    for (number, record) in records(body).enumerate() {
+        match read_term(store, &terms, record) {
+            Some(term) if seen.insert(term.clone()) => terms.push(term),
+            _ => return refuse(Reason::Term, number),
+        }
+    }
+    Ok(terms)
+}
+
+fn read_term(store: &mut Store, earlier: &[Term], [kind, x, y]: [u8; 3]) -> Option<Term> {
+    if let Some(kind) = Kind::from_number(kind) {
+        return Some(store.atom(kind, u16::from_be_bytes([x, y])));
+    }
+    let (x, y) = (earlier.get(usize::from(x))?.clone(), earlier.get(usize::from(y))?.clone());
+    let shape = match kind {
+        4 => Shape::Pair(x, y),
+        5 if y.is_plain() => Shape::Enc(x, y),
+        6 if y.is_key() => Shape::Enca(x, y),
+        _ => return None,
+    };
+    Some(store.term(shape))
+}
+
+/// Check 4.
+fn read_knowledge(terms: &[Term], body: &[u8]) -> Checked<Vec<Term>> {
+    let mut knowledge = Vec::new();
+    let mut seen = HashSet::new();
+    for (position, &number) in body.iter().enumerate() {
+        match terms.get(usize::from(number)) {
+            Some(term) if seen.insert(term) => knowledge.push(term.clone()),
+            _ => return refuse(Reason::Knowledge, position),
+        }
+    }
+    Ok(knowledge)
+}

@@ -1,0 +1,102 @@
+//! The notation: texts with a fault, and submissions of all kinds there and back.
+
+use checker_tests::bodies::Bodies;
+use checker_tests::examples::submission;
+use checker_tests::generate::Source;
+use checker_tests::notation::{assemble, show};
+
+/// M1 with other words for its parts.
+const TEXT: &str = "\
+# a comment
+
+terms
+  n
+  plain 2
+  message = enc(n, plain 2)
+knowledge
+  n
+  message
+derivation
+  0: n = dec(message, plain 2)
+claim
+  guess plain 2
+  step 0
+  way b
+";
+
+#[test]
+fn labels_and_comments_are_free() {
+    let canonical = TEXT.replace("message", "t2").replace("# a comment\n\n", "");
+    let assembled = assemble(TEXT).unwrap();
+    assert_eq!(show(&assembled), Ok(canonical.clone()));
+    assert_eq!(assemble(&canonical), Ok(assembled));
+}
+
+#[test]
+fn a_fault_names_its_line() {
+    let faults = [
+        ("terms", "term", 3, "the section `terms` is expected"),
+        ("  n\n  plain 2", "  n\n  n", 5, "`n` is listed already"),
+        ("  n\n  plain 2", "  nonce\n  plain 2", 4, "`nonce` is no name"),
+        ("  n\n  plain 2", "  secret n\n  plain 2", 4, "`secret` is not plain, public or private"),
+        ("= enc(n, plain 2)", "= hash(n, plain 2)", 6, "`hash` is not pair, enc or enca"),
+        ("= enc(n, plain 2)", "= enc(n)", 6, "two terms are expected"),
+        ("= enc(n, plain 2)", "= enc(n, plain 3)", 6, "no term `plain 3` is listed"),
+        ("= enc(n, plain 2)", "= enc n, plain 2", 6, "`(` is expected"),
+        ("= enc(n, plain 2)", "= record 9 9", 6, "a record has three bytes"),
+        ("  message =", "  a message =", 6, "`a message` is no label"),
+        ("knowledge", "", 10, "the section `knowledge` is expected"),
+        ("0: n = dec", "1: n = dec", 11, "step 0 is expected"),
+        ("0: n = dec", "0: n = decrypt", 11, "`decrypt` is no rule"),
+        ("0: n = dec", "0: x = dec", 11, "no term `x` is listed"),
+        ("guess plain 2", "step 0", 13, "`guess` is expected"),
+        ("step 0", "step 256", 14, "`256` is no number below 256"),
+        ("way b", "way a", 15, "`companion` is missing"),
+        ("  way b", "  way b\n  companion 0\n  companion 0", 17, "the claim has no further line"),
+        ("  way b\n", "", 14, "`way` is missing"),
+    ];
+    for (before, after, line, message) in faults {
+        let text = TEXT.replacen(before, after, 1);
+        let fault = assemble(&text).expect_err(after);
+        assert_eq!(fault.line, line, "{after}: {fault}");
+        assert!(fault.message.contains(message), "{after}: {fault}");
+    }
+}
+
+#[test]
+fn what_has_no_words_is_shown_in_numbers() {
+    let mut bodies = Bodies::read(&submission("M1")).unwrap();
+    bodies.terms.extend([[9, 0, 1], [1, 0, 1], [4, 5, 200]]);
+    bodies.knowledge.push(77);
+    bodies.derivation.extend([[1, 3, 2, 0], [200, 0, 99, 1]]);
+    bodies.claim = [88, 9, b'x', 3];
+    let text = show(&bodies.submission()).unwrap();
+    for line in [
+        "t3 = record 9 0 1",
+        "t4 = record 1 0 1",
+        "t5 = pair(@5, @200)",
+        "@77",
+        "1: plain 1 = fst(t3, t2)",
+        "2: plain 2 = rule200(plain 1, @99)",
+        "guess @88",
+        "way 120",
+        "companion 3",
+    ] {
+        assert!(text.lines().any(|shown| shown.trim() == line), "{line}\n{text}");
+    }
+    assert_eq!(assemble(&text), Ok(bodies.submission()));
+}
+
+#[test]
+fn every_submission_that_can_be_shown_assembles_again() {
+    let mut source = Source::new(7);
+    let mut shown = 0;
+    for _ in 0..3000 {
+        let submission = source.next_input().submission;
+        if let Ok(text) = show(&submission) {
+            assert_eq!(assemble(&text), Ok(submission), "{text}");
+            shown += 1;
+        }
+    }
+    assert!(shown > 2000);
+}
