@@ -1,4 +1,5 @@
 pub mod Check
+pub mod Code
 pub mod Condition
 pub mod Page
 pub mod Text

@@ -8,11 +8,11 @@ use Rattle.base.proofs.Grow.{listed-at}
 use Rattle.term.specs.Term.{Cipher, symmetric, asymmetric, Side, left, right, part, Term}
 use Rattle.term.specs.Table.{void}
 use Rattle.term.specs.Reduce.{cancelled, paired, parted, op}
-use Rattle.term.specs.Rule.{headOf, hasOne}
+use Rattle.term.specs.Rule.{rules, headOf, hasOne}
 use Rattle.machine.specs.declared.Machine.{Machine}
 use Rattle.machine.specs.Program.{Instruction, operand}
 use Rattle.machine.specs.Run.{executed}
-use Rattle.machine.specs.Code.{termAt, register, values, Sound, Ready, Gives, Executable}
+use Rattle.machine.specs.Code.{termAt, register, values, Ready, Gives, Executable}
 
 -- the value of a register
 pub value-at : (m : Machine) (r : ℕ) → r < m .used → getD (values m) r void ≡ termAt m (register m r)
@@ -51,7 +51,7 @@ pub deca-cancels : Cancels asymmetric 5 6
 unfolding op headOf
 deca-cancels = record { steps = λ a b. refl }
 
-pub last-rule : (n : ℕ) → n < 7 → (n ≡ 0 → ⊥) → (n ≡ 1 → ⊥) → (n ≡ 2 → ⊥) → (n ≡ 3 → ⊥) → (n ≡ 4 → ⊥) → (n ≡ 5 → ⊥) → n ≡ 6
+pub last-rule : (n : ℕ) → n < rules → (n ≡ 0 → ⊥) → (n ≡ 1 → ⊥) → (n ≡ 2 → ⊥) → (n ≡ 3 → ⊥) → (n ≡ 4 → ⊥) → (n ≡ 5 → ⊥) → n ≡ 6
 last-rule n l a b c d e f = omega arith
 
 -- ---- an instruction

@@ -1,12 +1,12 @@
 -- Looking for a node, and tests on nodes, one test at a time.
 use mathlib.Core.Path.{_≡_, refl, sym, ap, _∙_}
-use mathlib.Core.Bool.{Bool, true, false, _&&_, and-true, and-false, or-false}
+use mathlib.Core.Bool.{Bool, true, false, and-true, and-false, or-false}
 use mathlib.Core.Option.{Option, none, some}
 use Prim.Native.Nat.{ℕ, _+_, _≤_, _<_}
 use native.Mathlib.Omega.{arith}
 use lib.Dec.{eqb}
 use lib.ListN.{length, set}
-use borrow.Author.Tests.{eq-eqb, ne-eqb, eqb-true}
+use borrow.Author.Tests.{eq-eqb, ne-eqb}
 use Rattle.base.specs.First.{first}
 use Rattle.base.proofs.First.{Passed, passed-more, passed-hit, passed-all, first-some}
 use Rattle.base.proofs.Says.{Says, says-eqb, says-and}

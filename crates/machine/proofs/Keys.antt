@@ -1,13 +1,14 @@
 -- Keys of opposite operations, by their nodes.
 use mathlib.Core.Path.{_≡_, refl, sym, ap, _∙_, subst}
-use mathlib.Core.Bool.{Bool, true}
+use mathlib.Core.Bool.{Bool}
 use mathlib.Core.Logic.{_⊎_, inl, inr, ⊎-elim}
 use Prim.Native.Nat.{ℕ, _+_, _<_}
 use lib.Dec.{eqb}
 use borrow.Author.Tests.{eq-eqb, eqb-true}
-use Rattle.base.proofs.Says.{Says, says-eqb, says-and, says-or, denies}
+use Rattle.base.proofs.Says.{Says, says-eqb, says-and, says-or, same-test}
 use Rattle.term.specs.Term.{Kind, plain, public, private, otherKind, symmetric, asymmetric, Term, atom, node, inverse, isKey, test, term?, Match}
 use Rattle.term.specs.Reduce.{match?}
+use Rattle.term.proofs.Reduce.{says-test}
 use Rattle.term.proofs.Table.{decode-inj}
 use Rattle.submission.specs.Record.{kindOf, atomic}
 use Rattle.machine.specs.declared.Node.{Node}
@@ -17,16 +18,16 @@ use Rattle.machine.specs.declared.Cipher.the-variants.{Symmetric, Asymme
 use Rattle.machine.specs.Code.{cipherOf, nodeIn, inverseNodes, termAt, Sound}
 use Rattle.machine.proofs.Nodes.{atom-term, atom-node}
 
-says-test : {P : Type 0} {b : Bool} → Says b P → (d : Dec P) → b ≡ test d
-says-test w (yes p) = w .1 p
-says-test {b = b} w (no p) = denies b w .1 p
+-- a test that says what was decided is that decision
+decided : {P : Type 0} {b : Bool} (d : Dec P) → Says b P → b ≡ test d
+decided {b = b} d w = same-test b (test d) w (says-test d)
 
 module _ {m : Machine} {k j : ℕ} (w : Sound m) (l : k < m .nodes) (n : j < m .nodes) where
   pub one-key : {c : Cipher} → c ≡ Symmetric → eqb k j ≡ test (match? (cipherOf c) (termAt m k) (termAt m j))
-  one-key q = rw q (says-test (λ e. record { fits = tt; turned = sym (ap (termAt m) (eqb-true k j e)) }, λ u. eq-eqb k j (sym (decode-inj (w .table) j k n l (u .turned)))) (match? symmetric _ _))
+  one-key q = rw q (decided (match? symmetric _ _) (λ e. record { fits = tt; turned = sym (ap (termAt m) (eqb-true k j e)) }, λ u. eq-eqb k j (sym (decode-inj (w .table) j k n l (u .turned)))))
 
   pub one-term : eqb k j ≡ test (term? (termAt m j) (termAt m k))
-  one-term = says-test (λ e. sym (ap (termAt m) (eqb-true k j e)), λ u. eq-eqb k j (sym (decode-inj (w .table) j k n l u))) (term? _ _)
+  one-term = decided (term? _ _) (λ e. sym (ap (termAt m) (eqb-true k j e)), λ u. eq-eqb k j (sym (decode-inj (w .table) j k n l u)))
 
   -- a key's node, and its inverse's
   of-kind : (κ : Kind) → isKey (atom κ 0) → nodeIn m k .head ≡ 128 + kindOf (atomic κ) → nodeIn m j .head ≡ 128 + kindOf (atomic (otherKind κ)) → nodeIn m k .left ≡ nodeIn m j .left →
@@ -56,4 +57,4 @@ module _ {m : Machine} {k j : ℕ} (w : Sound m) (l : k < m .nodes) (n : j < m .
       )
 
   pub inverse-keys : {c : Cipher} {f : Bool} {x y : Node} → c ≡ Asymmetric → x ≡ nodeIn m k → y ≡ nodeIn m j → f ≡ inverseNodes x y → f ≡ test (match? (cipherOf c) (termAt m k) (termAt m j))
-  inverse-keys q e g t = t ∙ rw (e, g, q) (says-test says-inverse (match? asymmetric _ _))
+  inverse-keys q e g t = t ∙ rw (e, g, q) (decided (match? asymmetric _ _) says-inverse)

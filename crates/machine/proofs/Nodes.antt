@@ -7,7 +7,6 @@ use Rattle.term.specs.Rule.{headOf}
 use Rattle.term.proofs.Rule.{ruleOf}
 use Rattle.term.proofs.Table.{part-below, node-of, branch-of, leaf-of}
 use Rattle.submission.specs.Record.{kindOf, atomic, shapeOf}
-use Rattle.machine.specs.declared.Node.{Node}
 use Rattle.machine.specs.declared.Machine.{Machine}
 use Rattle.machine.specs.Code.{recordFor, nodeFor, nodeIn, nodeAt, termAt, Sound}
 

@@ -14,12 +14,12 @@ use Rattle.submission.specs.Record.{entries}
 use Rattle.machine.specs.Program.{Instruction, Test, Program, instructionBytes, bytesOf, programLength, instructionAt, testOf, badInstruction, badTest, badProgram}
 
 -- three bytes an instruction
-bytes-length : (is : List Instruction) → length (instructionBytes is) ≡ 3 * length is
+pub bytes-length : (is : List Instruction) → length (instructionBytes is) ≡ 3 * length is
 unfolding instructionBytes
 bytes-length [] = refl
 bytes-length (i ∷ is) = omega (arith, bytes-length is)
 
-bytes-append : (is js : List Instruction) → instructionBytes (is ++ js) ≡ instructionBytes is ++ instructionBytes js
+pub bytes-append : (is js : List Instruction) → instructionBytes (is ++ js) ≡ instructionBytes is ++ instructionBytes js
 unfolding instructionBytes
 bytes-append [] js = refl
 bytes-append (i ∷ is) js = rw (bytes-append is js)

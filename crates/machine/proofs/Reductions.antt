@@ -1,33 +1,34 @@
 -- The machine's step over nodes: each rule forms its own node, or a reduction gives one that is there.
 use mathlib.Core.Path.{_≡_, refl, sym, ap, ap₂, _∙_, subst}
-use mathlib.Core.Bool.{Bool, true, false, true≢false, false≢true}
+use mathlib.Core.Bool.{Bool, true, false}
 use mathlib.Core.List.{_∷_, [], _++_}
 use mathlib.Core.Logic.{Dec·and, if-pos, if-neg}
-use Prim.Native.Nat.{ℕ, _+_, _≤_, _<_}
+use Prim.Native.Nat.{ℕ, _+_, _<_}
 use native.Mathlib.Omega.{arith}
 use borrow.Author.Tests.{lt-ltb}
 use Rattle.base.proofs.Says.{Says, says-eqb, says-and, denies}
-use Rattle.term.specs.Term.{Cipher, symmetric, asymmetric, Side, left, right, Head, pair, part, encrypt, decrypt, Term, atom, node, head?, term?, test, Match}
+use Rattle.term.specs.Term.{Cipher, Side, left, right, Head, pair, part, Term, atom, node, head?, term?, test, Match}
 use Rattle.term.specs.Table.{branch, message}
-use Rattle.term.specs.Reduce.{match?, cancelled, paired, parted, pick, op}
-use Rattle.term.specs.Rule.{headOf}
+use Rattle.term.specs.Reduce.{match?, cancelled, paired, parted, pick}
+use Rattle.term.specs.Rule.{rules, headOf}
+use Rattle.term.proofs.Reduce.{says-test}
 use Rattle.term.proofs.Rule.{ruleOf, rule-head}
 use Rattle.term.proofs.Table.{choose, decode-inj}
 use Rattle.machine.specs.declared.Node.{Node}
 use Rattle.machine.specs.declared.Machine.{Machine}
 use Rattle.machine.specs.declared.Interned.{Interned}
-use Rattle.machine.specs.Code.{recordFor, nodeIn, partsOfOne, termAt, values, Sound, Holds, Fit, Has, Ready, Stored, Gives}
+use Rattle.machine.specs.Code.{recordFor, nodeIn, partsOfOne, termAt, Sound, Fit, Has, Ready, Stored, Gives}
 use Rattle.machine.proofs.Nodes.{compound-below, compound-term, compound-node}
 
 -- ---- forming a node
 abbrev form : ℕ → ℕ → ℕ → Node
 form rule a b = record { head = rule; left = a; right = b }
 
-form-record : (rule a b : ℕ) → rule < 7 → recordFor (form rule a b) ≡ branch (headOf rule) a b
+form-record : (rule a b : ℕ) → rule < rules → recordFor (form rule a b) ≡ branch (headOf rule) a b
 unfolding recordFor
 form-record rule a b l = rw (lt-ltb rule 128 (omega arith))
 
-module _ {m : Machine} {rule a b : ℕ} (w : Ready m a b) (l : rule < 7) where
+module _ {m : Machine} {rule a b : ℕ} (w : Ready m a b) (l : rule < rules) where
   pub form-fit : Fit m (record { head = rule; left = a; right = b })
   form-fit = record {
     sound = w .sound;
@@ -54,17 +55,8 @@ module _ {m r : Machine} where
   stored : {t : Term} {n : ℕ} → Stored m n r → t ≡ termAt m n → Gives m t r
   stored s e = rw e (record { holds = s .holds; used = s .used; few = omega (arith, s .nodes) })
 
--- what a decision says that was a test
-told : {P : Type 0} {b : Bool} (d : Dec P) → b ≡ test d → b ≡ true → P
-told (yes p) e t = p
-told (no p) e t = absurd (false≢true (sym e ∙ t))
-
-denied : {P : Type 0} {b : Bool} (d : Dec P) → b ≡ test d → b ≡ false → P → ⊥
-denied (yes p) e t h = true≢false (sym e ∙ t)
-denied (no p) e t h = p h
-
 -- ---- a node of this head, as it was read
-module _ {m : Machine} {a rule : ℕ} {x : Node} (w : Sound m) (l : a < m .nodes) (e : x ≡ nodeIn m a) (h : x .head ≡ rule) (b : rule < 7) where
+module _ {m : Machine} {a rule : ℕ} {x : Node} (w : Sound m) (l : a < m .nodes) (e : x ≡ nodeIn m a) (h : x .head ≡ rule) (b : rule < rules) where
   head-is : nodeIn m a .head ≡ ruleOf (headOf rule)
   head-is = sym (ap (λ z. z .head) e) ∙ h ∙ sym (rule-head rule b)
 
@@ -93,7 +85,7 @@ cancel-some : (c : Cipher) (inner outer : Head) (x k b : Term) → Match c k b �
 unfolding cancelled
 cancel-some c inner outer x k b u = if-pos (Dec·and (head? inner inner) (match? c k b)) (refl, u) x (node outer (node inner x k) b)
 
-module _ {m r : Machine} {a b : ℕ} {x : Node} (c : Cipher) (inner outer : ℕ) (w : Ready m a b) (e : x ≡ nodeIn m a) (l : inner < 7) where
+module _ {m r : Machine} {a b : ℕ} {x : Node} (c : Cipher) (inner outer : ℕ) (w : Ready m a b) (e : x ≡ nodeIn m a) (l : inner < rules) where
   -- a node of another head
   pub cancel-other : (x .head ≡ inner → ⊥) → Gives m (node (headOf outer) (termAt m a) (termAt m b)) r → Gives m (cancelled c (headOf inner) (headOf outer) (termAt m a) (termAt m b)) r
   cancel-other d g = named g (cancel-none c (headOf inner) (headOf outer) _ _ (λ y k f u. d (read-node (w .sound) (w .first) e f .0 ∙ rule-head inner l)))
@@ -103,12 +95,12 @@ module _ {m r : Machine} {a b : ℕ} {x : Node} (c : Cipher) (inner outer : ℕ)
     pub cancel-key : f ≡ false → Gives m (node (headOf outer) (termAt m a) (termAt m b)) r → Gives m (cancelled c (headOf inner) (headOf outer) (termAt m a) (termAt m b)) r
     cancel-key q g =
         named g (cancel-none c (headOf inner) (headOf outer) _ _
-        (λ y k f u. denied (match? c _ _) t q (subst (λ z. Match c z (termAt m b)) (sym (read-node (w .sound) (w .first) e f .2)) u)))
+        (λ y k f u. denies _ (says-test (match? c _ _)) .0 (sym t ∙ q) (subst (λ z. Match c z (termAt m b)) (sym (read-node (w .sound) (w .first) e f .2)) u)))
 
     pub cancel-here : f ≡ true → Stored m (x .left) r → Gives m (cancelled c (headOf inner) (headOf outer) (termAt m a) (termAt m b)) r
     cancel-here q s =
         stored s (ap (λ z. cancelled c (headOf inner) (headOf outer) z (termAt m b)) (term-is (w .sound) (w .first) e h l)
-        ∙ cancel-some c (headOf inner) (headOf outer) _ _ _ (told (match? c _ _) t q))
+        ∙ cancel-some c (headOf inner) (headOf outer) _ _ _ (says-test (match? c _ _) .0 (sym t ∙ q)))
 
 -- ---- a pair of parts
 pair-none : (a b : Term) → ((x p q : Term) → a ≡ node (part left) x p → b ≡ node (part right) x q → ⊥) → paired a b ≡ node pair a b

@@ -14,7 +14,7 @@ use Rattle.base.proofs.First.{Passed}
 use Rattle.base.proofs.Scan.{true-any, false-any}
 use Rattle.base.proofs.Order.{lt-or-ge}
 use Rattle.term.specs.Term.{symmetric, asymmetric, pair, encrypt, decrypt, single}
-use Rattle.term.specs.Rule.{headOf, hasOne}
+use Rattle.term.specs.Rule.{rules, headOf, hasOne}
 use Rattle.submission.specs.Contents.{byte}
 use Rattle.submission.specs.Record.{entries}
 use Rattle.machine.specs.Program.{Instruction, Test, inverse, relationOf, isTest, instructionAt, testOf, badInstruction, badTest, badProgram}
@@ -47,7 +47,7 @@ unwritten x n = ⊎-elim (λ l. rw (lt-leb n x l, lt-ltb x n l)) (λ l. rw (le-l
 module _ (n : ℕ) (i : Instruction) where
   pub bad-rule : 6 < i .rule → true ≡ badInstruction n i
   unfolding badInstruction
-  bad-rule l = rw (le-ltb (i .rule) 7 l)
+  bad-rule l = rw (le-ltb (i .rule) rules l)
 
   pub bad-first : {x : ℕ} → x ≡ i .first → n ≤ x → true ≡ badInstruction n i
   unfolding badInstruction
@@ -56,11 +56,11 @@ module _ (n : ℕ) (i : Instruction) where
   module _ {x : ℕ} (r : i .rule ≤ 6) (e : x ≡ i .first) (l : x < n) where
     pub bad-unused : {b z : Bool} → b ≡ hasOne (i .rule) → b ≡ true → z ≡ not (eqb (i .second) 0) → z ≡ badInstruction n i
     unfolding badInstruction
-    bad-unused f t g = g ∙ rw (lt-ltb (i .rule) 7 (suc-le-suc r), ← e, lt-ltb x n l, ← f, t)
+    bad-unused f t g = g ∙ rw (lt-ltb (i .rule) rules (suc-le-suc r), ← e, lt-ltb x n l, ← f, t)
 
     pub bad-second : {b : Bool} {y : ℕ} → b ≡ hasOne (i .rule) → b ≡ false → y ≡ i .second → leb n y ≡ badInstruction n i
     unfolding badInstruction
-    bad-second {y = y} f t g = rw (lt-ltb (i .rule) 7 (suc-le-suc r), ← e, lt-ltb x n l, ← f, t, ← g) (unwritten y n)
+    bad-second {y = y} f t g = rw (lt-ltb (i .rule) rules (suc-le-suc r), ← e, lt-ltb x n l, ← f, t, ← g) (unwritten y n)
 
 -- ---- the instructions of the program P, where k registers hold the knowledge
 abbrev pub badAt : ℕ → List ℕ → ℕ → Bool

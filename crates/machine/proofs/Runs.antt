@@ -12,10 +12,9 @@ use borrow.Author.Tests.{ltb-true, ltb-false, ne-eqb}
 use Rattle.base.specs.First.{any}
 use Rattle.base.specs.Grow.{grow}
 use Rattle.base.proofs.Says.{says-true, says-ltb, says-and, says-any, denies, not-not-false, or-false}
-use Rattle.term.specs.Term.{asymmetric, Term, test, term?}
-use Rattle.term.specs.Table.{void}
+use Rattle.term.specs.Term.{asymmetric, test}
 use Rattle.term.specs.Reduce.{match?}
-use Rattle.term.specs.Rule.{hasOne}
+use Rattle.term.specs.Rule.{rules, hasOne}
 use Rattle.submission.specs.declared.Stage.{Stage}
 use Rattle.submission.specs.declared.Stage.the-variants.{Passed, Refused}
 use Rattle.submission.specs.Answer.{done, refused, answered}
@@ -27,17 +26,17 @@ use Rattle.submission.proofs.Listed.{Claimed, claimed}
 use Rattle.machine.specs.declared.Machine.{Machine}
 use Rattle.machine.specs.declared.Outcome.{Outcome}
 use Rattle.machine.specs.Program.{Instruction, Test, Relation, equal, inverse, relationOf, isTest, operand, instructionAt, testOf, programLength, badInstruction, badTest, badProgram}
-use Rattle.machine.specs.Run.{initial, executed, registers, holds, signals, signal, runAnswer}
-use Rattle.machine.specs.Code.{answerOf, termAt, register, values, Sound, Holds, Gives, Executable, Started, Running, Testable}
+use Rattle.machine.specs.Run.{executed, registers, holds, signals, signal, runAnswer}
+use Rattle.machine.specs.Code.{answerOf, termAt, register, values, Gives, Executable, Started, Running, Testable}
 use Rattle.machine.proofs.Executes.{value-at}
 use Rattle.machine.proofs.Keys.{one-term}
 use Rattle.machine.proofs.Refuse.{badAt}
 
 -- ---- a program that passes check 13
-good-instruction : (n : ℕ) (i : Instruction) → badInstruction n i ≡ false → (i .rule < 7) × (i .first < n) × (operand i < n)
+good-instruction : (n : ℕ) (i : Instruction) → badInstruction n i ≡ false → (i .rule < rules) × (i .first < n) × (operand i < n)
 unfolding badInstruction
 good-instruction n i e =
-    let u = says-and _ _ (says-ltb (i .rule) 7) (says-and _ _ (says-ltb (i .first) n) (says-true (cond (hasOne (i .rule)) (eqb (i .second) 0) (ltb (i .second) n)))) .0 (not-not-false _ .0 e) in
+    let u = says-and _ _ (says-ltb (i .rule) rules) (says-and _ _ (says-ltb (i .first) n) (says-true (cond (hasOne (i .rule)) (eqb (i .second) 0) (ltb (i .second) n)))) .0 (not-not-false _ .0 e) in
     (u .0, u .1 .0, go (hasOne (i .rule)) (u .1 .0) (u .1 .1))
   where
     go : (b : Bool) → i .first < n → cond b (eqb (i .second) 0) (ltb (i .second) n) ≡ true → cond b (i .first) (i .second) < n

@@ -1,9 +1,9 @@
 -- A state with one node or one register more: what it holds.
 use mathlib.Core.Path.{_≡_, refl, sym, ap, _∙_, subst}
-use mathlib.Core.Bool.{true, false, true≢false}
+use mathlib.Core.Bool.{true, true≢false}
 use mathlib.Core.Option.{none}
 use mathlib.Core.List.{List, [], _∷_, _++_}
-use Prim.Native.Nat.{ℕ, zero, suc, _+_, _≤_, _<_}
+use Prim.Native.Nat.{ℕ, zero, suc, _+_, _<_}
 use native.Mathlib.Nat.{zero-add}
 use native.Mathlib.Numerals.{add-one}
 use native.Mathlib.Omega.{arith}
@@ -13,14 +13,13 @@ use borrow.Author.Count.{below-more}
 use borrow.Author.Tests.{eq-eqb}
 use Rattle.base.specs.First.{first}
 use Rattle.base.proofs.First.{first-none}
-use Rattle.base.specs.Grow.{grow, listed}
+use Rattle.base.specs.Grow.{grow}
 use Rattle.base.proofs.Grow.{length-grow}
-use Rattle.term.specs.Term.{Term}
 use Rattle.term.specs.Table.{Rec, message, void, decoded}
-use Rattle.term.proofs.Table.{Below, Table, extended}
+use Rattle.term.proofs.Table.{Table, extended}
 use Rattle.machine.specs.declared.Node.{Node}
 use Rattle.machine.specs.declared.Machine.{Machine}
-use Rattle.machine.specs.Code.{recordFor, nodeFor, nodeIn, nodeAt, termAt, register, values, Sound, Holds, isNode, Fit, Has, Stored}
+use Rattle.machine.specs.Code.{recordFor, nodeFor, nodeIn, nodeAt, termAt, register, values, Sound, isNode, Fit, Has, Stored}
 
 -- ---- lists that grow alike
 grow-alike : {A : Type 0} (s : List A) (f g : List A → ℕ → A) (n : ℕ) → ((i : ℕ) (l : List A) → i < n → f l i ≡ g l i) → grow s f n ≡ grow s g n

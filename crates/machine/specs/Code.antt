@@ -8,7 +8,7 @@ use Prim.Native.Nat.{ℕ, _+_, _-_, _≤_, _<_}
 use lib.Dec.{eqb, ltb}
 use lib.ListN.{length, getD}
 use Rattle.base.specs.Grow.{listed}
-use Rattle.term.specs.Term.{symmetric, asymmetric, left, right, Head, pair, part, encrypt, decrypt, Term}
+use Rattle.term.specs.Term.{symmetric, asymmetric, left, right, part, Term}
 use Rattle.term.specs.Term as words
 use Rattle.term.specs.Table.{Rec, leaf, branch, decoded, void, message}
 use Rattle.term.specs.Rule.{rules, headOf}

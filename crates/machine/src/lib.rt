@@ -4,11 +4,11 @@ use submission::Stage;
 ghost use mathlib.Core.Path.{_≡_};
 ghost use mathlib.Core.Bool.{false, cond};
 ghost use mathlib.Core.List.{[]};
-ghost use Prim.Native.Nat.{_+_, _*_, _≤_, _<_};
+ghost use Prim.Native.Nat.{_+_, _≤_, _<_};
 ghost use Rattle.base.specs.First.{first, any};
 ghost use Rattle.term.specs.Term.{part, node as term, test};
 ghost use Rattle.term.specs.Reduce.{match?, paired as pairedTerm, parted as partedTerm, cancelled as cancelledTerm};
-ghost use Rattle.term.specs.Rule.{headOf, hasOne};
+ghost use Rattle.term.specs.Rule.{rules, headOf, hasOne};
 ghost use Rattle.term.proofs.Table.{choose};
 ghost use Rattle.submission.specs.Answer.{done, answered};
 ghost use Rattle.submission.specs.Stage.{checkOf};
@@ -18,6 +18,23 @@ ghost use Rattle.submission.proofs.Listed.{Listed, Claimed};
 ghost use Rattle.machine.specs.Program.{instructionAt, operand, testOf, badInstruction, badTest, badProgram};
 ghost use Rattle.machine.specs.Run.{executed as executedTerm, signals, runAnswer};
 ghost use Rattle.machine.specs.Code.{instructionOf, testIn, cipherOf, sideOf, answerOf, nodeFor, nodeIn, sameNode, partsOfOne, inverseNodes, isNode, foundOf, termAt, values, Sound, Executable, Fit, Has, Ready, Stored, Gives, knowledge, Loaded, Started, Running, Testable};
+
+// ---- Programs, and check 13.
+
+// The rules' numbers.
+const PAIR: u8 = 0;
+
+const FST: u8 = 1;
+
+const SND: u8 = 2;
+
+const ENC: u8 = 3;
+
+const DEC: u8 = 4;
+
+const ENCA: u8 = 5;
+
+const DECA: u8 = 6;
 
 // One instruction: a rule and two registers.
 pub struct Instruction {
@@ -33,7 +50,8 @@ pub struct Test {
     pub second: u8,
 }
 
-pub fn instruction_at(program: &[u8], i: u8) -> Instruction
+// Instruction i.
+fn instruction_at(program: &[u8], i: u8) -> Instruction
     ensures { λ r. ⌜ instructionOf r ≡ instructionAt (now (program .entry)) i ⌝ }
 {
     let at = 3 * submission::wide(i);
@@ -44,7 +62,8 @@ pub fn instruction_at(program: &[u8], i: u8) -> Instruction
     }
 }
 
-pub fn test_of(program: &[u8]) -> Test
+// The program's last three bytes.
+fn test_of(program: &[u8]) -> Test
     ensures { λ r. ⌜ testIn r ≡ testOf (now (program .entry)) ⌝ }
 {
     let at = 3 * submission::wide(submission::byte(program, 0));
@@ -59,17 +78,17 @@ pub fn test_of(program: &[u8]) -> Test
 fn has_one(rule: u8) -> bool
     ensures { λ r. ⌜ r ≡ hasOne rule ⌝ }
 {
-    if rule == 1 {
+    if rule == FST {
         return true;
     }
-    rule == 2
+    rule == SND
 }
 
 // Whether the instruction is bad, with the first `written` registers written before it.
-fn is_bad_instruction(i: Instruction, written: usize) -> bool
+fn is_instruction_bad(i: Instruction, written: usize) -> bool
     ensures { λ r. ⌜ r ≡ badInstruction written (instructionOf i) ⌝ }
 {
-    if 6 < i.rule {
+    if DECA < i.rule {
         return true;
     }
     if written <= submission::wide(i.first) {
@@ -81,7 +100,8 @@ fn is_bad_instruction(i: Instruction, written: usize) -> bool
     written <= submission::wide(i.second)
 }
 
-fn is_bad_test(t: Test, written: usize) -> bool
+// Whether the test is bad, with the first `written` registers written.
+fn is_test_bad(t: Test, written: usize) -> bool
     ensures { λ r. ⌜ r ≡ badTest written (testIn t) ⌝ }
 {
     if written <= submission::wide(t.first) {
@@ -103,7 +123,7 @@ fn has_bad_instruction(program: &[u8], known: u8) -> bool
     let n = submission::byte(program, 0);
     for i in 0..n {
         let written = submission::wide(known) + 1 + submission::wide(i);
-        if is_bad_instruction(instruction_at(program, i), written) {
+        if is_instruction_bad(instruction_at(program, i), written) {
             return true;
         }
     }
@@ -111,7 +131,7 @@ fn has_bad_instruction(program: &[u8], known: u8) -> bool
 }
 
 // Row 13 of the verdicts.
-pub fn is_bad_program(s: &[u8], program: &[u8]) -> bool
+fn is_program_bad(s: &[u8], program: &[u8]) -> bool
     ensures { λ r. ⌜ r ≡ badProgram (now (s .entry)) (now (program .entry)) ⌝ }
 {
     if program.len() == 0 {
@@ -128,33 +148,23 @@ pub fn is_bad_program(s: &[u8], program: &[u8]) -> bool
     if has_bad_instruction(program, known) {
         return true;
     }
-    is_bad_test(
+    is_test_bad(
         test_of(program),
         submission::wide(known) + 1 + submission::wide(n),
     )
 }
 
-// The rules' numbers, and the heads of keys.
-const PAIR: u8 = 0;
+// ---- Terms as nodes.
 
-const FST: u8 = 1;
-
-const SND: u8 = 2;
-
-const ENC: u8 = 3;
-
-const DEC: u8 = 4;
-
-const ENCA: u8 = 5;
-
-const DECA: u8 = 6;
+// The heads of atoms are 128 and the kind; those of keys, public and private.
+const ATOM: u8 = 128;
 
 const PUBLIC: u8 = 130;
 
 const PRIVATE: u8 = 131;
 
-// A term as a node. A head below 128 is a rule's number, and the node is that rule's word over two nodes; fst and snd have their node twice.
-// Other heads are those of atoms, 128 and the kind, with the name on the left.
+// A term as a node. A head below ATOM is a rule's number, and the node is that rule's word over two nodes; fst and snd have their node twice.
+// An atom has its name on the left.
 pub struct Node {
     pub head: u8,
     pub left: u16,
@@ -171,7 +181,7 @@ pub struct Machine {
     pub used: u16,
 }
 
-// What looking for a node finds.
+// What looking for a node finds: its number.
 pub enum Found {
     At(u16),
     Nothing,
@@ -194,6 +204,7 @@ pub enum Side {
     Right,
 }
 
+// The signal, 1 or 0; or the refusal's number and place.
 pub enum Outcome {
     Signal(u8),
     Refused { number: u8, place: u16 },
@@ -235,7 +246,7 @@ fn are_inverse(a: Node, b: Node) -> bool
 }
 
 // Whether x is the first part of a node and y the second part of the same.
-fn are_parts(x: Node, y: Node) -> bool
+fn are_parts_of_one(x: Node, y: Node) -> bool
     ensures { λ r. ⌜ r ≡ partsOfOne x y ⌝ }
 {
     if x.head != FST {
@@ -263,6 +274,8 @@ fn operand_of(i: Instruction) -> u8
     if has_one(i.rule) { i.first } else { i.second }
 }
 
+// ---- The state, and one instruction.
+
 impl Machine {
     fn node(self, n: u16) -> Node
         requires { ⌜ n < 384 ⌝ }
@@ -276,6 +289,7 @@ impl Machine {
         }
     }
 
+    // The first node that is v.
     fn find(self, v: Node) -> Found
         requires { ⌜ self .nodes ≤ 384 ⌝ }
         ensures { λ r. ⌜ r ≡ foundOf (first (isNode self v) (self .nodes)) ⌝ }
@@ -333,7 +347,7 @@ impl Machine {
     // The state with the rule's word over a and b in the next register.
     fn formed(self, rule: u8, a: u16, b: u16) -> Self
         requires { ⌜ Ready self a b ⌝ }
-        requires { ⌜ rule < 7 ⌝ }
+        requires { ⌜ rule < rules ⌝ }
         ensures { λ r. ⌜ Gives self (term (headOf rule) (termAt self a) (termAt self b)) r ⌝ }
     {
         let made = self.intern(Node {
@@ -366,7 +380,7 @@ impl Machine {
     {
         let x = self.node(a);
         let y = self.node(b);
-        if are_parts(x, y) {
+        if are_parts_of_one(x, y) {
             return self.with_register(x.left);
         }
         self.formed(PAIR, a, b)
@@ -375,7 +389,7 @@ impl Machine {
     // The rules fst and snd: a pair gives its part.
     fn parted(self, side: Side, rule: u8, a: u16) -> Self
         requires { ⌜ Ready self a a ⌝ }
-        requires { ⌜ rule < 7 ⌝ }
+        requires { ⌜ rule < rules ⌝ }
         requires { ⌜ headOf rule ≡ part (sideOf side) ⌝ }
         ensures { λ r. ⌜ Gives self (partedTerm (sideOf side) (termAt self a) (termAt self a)) r ⌝ }
     {
@@ -389,8 +403,8 @@ impl Machine {
     // A rule that cancels another: over a node of that other rule, under a key that goes with b, it gives the operand.
     fn cancelled(self, cipher: Cipher, inner: u8, outer: u8, a: u16, b: u16) -> Self
         requires { ⌜ Ready self a b ⌝ }
-        requires { ⌜ inner < 7 ⌝ }
-        requires { ⌜ outer < 7 ⌝ }
+        requires { ⌜ inner < rules ⌝ }
+        requires { ⌜ outer < rules ⌝ }
         ensures { λ r. ⌜ Gives self (cancelledTerm (cipherOf cipher) (headOf inner) (headOf outer) (termAt self a) (termAt self b)) r ⌝ }
     {
         let x = self.node(a);
@@ -404,7 +418,7 @@ impl Machine {
     }
 
     // Executes one instruction: its result goes to the next register.
-    pub fn step(self, i: Instruction) -> Self
+    fn step(self, i: Instruction) -> Self
         requires { ⌜ Executable self (instructionOf i) ⌝ }
         ensures { λ r. ⌜ Gives self (executedTerm (values self) (instructionOf i)) r ⌝ }
     {
@@ -425,6 +439,9 @@ impl Machine {
     }
 }
 
+// ---- A run.
+
+// A state with no node and no register in use.
 fn empty() -> Machine
     ensures { λ r. ⌜ r .used ≡ 0 ⌝ }
 {
@@ -465,7 +482,7 @@ fn node_of(s: &[u8], t: u8) -> Node
             right: y,
         },
         _ => Node {
-            head: 128 + kind,
+            head: ATOM + kind,
             left: x * 256 + y,
             right: 0,
         },
@@ -490,7 +507,7 @@ fn with_terms(s: &[u8]) -> Machine
     m
 }
 
-// .. and the knowledge, in the first registers.
+// The state that holds the terms, and the knowledge in the first registers.
 fn with_knowledge(s: &[u8]) -> Machine
     requires { ⌜ Listed (now s) ⌝ }
     ensures { λ r. ⌜ Loaded (now (s .entry)) (knowledge (now (s .entry)) (entryCount (now (s .entry)))) r ⌝ }
@@ -512,7 +529,7 @@ fn initial(s: &[u8], name: u16) -> Machine
     let claim = submission::claim_of(s);
     let guess = submission::term_at(s, claim.guess);
     let made = m.intern(Node {
-        head: 128 + guess.kind,
+        head: ATOM + guess.kind,
         left: name,
         right: 0,
     });
@@ -577,7 +594,7 @@ pub fn run(s: &[u8], name: u16, program: &[u8]) -> Outcome
     let Stage::Passed = reading else {
         return refused(reading);
     };
-    if is_bad_program(s, program) {
+    if is_program_bad(s, program) {
         return Outcome::Refused {
             number: 13,
             place: 0,

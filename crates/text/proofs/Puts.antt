@@ -75,3 +75,7 @@ module _ {a b : List ℕ} {k j : ℕ} (word : List ℕ) (i : ℕ) where
 
   pub word-all : Puts a k (take i word) b j → length word ≤ i → Puts a k word b j
   word-all p h = rw (take-all i word h) at p
+
+-- what was written is no longer than the buffer
+pub puts-taken : {a b text : List ℕ} {k : ℕ} → Puts a 0 text b k → k ≡ length (take k b)
+puts-taken {a} {b} {text} {k} p = sym (length-take-le k b (omega (arith, puts-length p, p .place)))

@@ -1,50 +1,37 @@
+-- `node_of` meets its contract: three compound kinds, and atoms.
 use Rattle.term.specs.Term.{symmetric, asymmetric, pair, encrypt}
 use Rattle.machine.proofs.Loads.{node-compound, node-atomic, atom-kind-fits}
 use borrow.Author.Needs.{needs}
 use Rattle.machine.proofs.node_of.Statement.{statement}
 use Rattle.machine.proofs.node_of.Tie as tie
-use Rattle.machine.proofs.node_of.Reads as reads
-use Rattle.machine.proofs.node_of.Lts as lts
-use Rattle.submission.proofs.term_at.Reads as term-at-reads
-use Rattle.submission.proofs.wide16.Reads as wide16-reads
 
--- src/lib.rt:444:9
 term-at-requires : tie.Need-term-at-requires
 term-at-requires c κs = search needs
 
--- src/lib.rt:446:9
 wide16-requires : tie.Need-wide16-requires
 wide16-requires c κs = search needs
 
--- src/lib.rt:447:9
 wide16-requires-2 : tie.Need-wide16-requires-2
 wide16-requires-2 c κs = search needs
 
--- src/lib.rt:465:19
 add-t8 : tie.Need-add-t8
 add-t8 c = search atom-kind-fits
 
--- src/lib.rt:466:19
 mul-t9 : tie.Need-mul-t9
 mul-t9 c = search needs
 
--- src/lib.rt:466:19
 add-t10 : tie.Need-add-t10
 add-t10 c = search needs
 
--- src/lib.rt:439:1
 returns : tie.Need-returns
 returns c = search (node-compound pair tt)
 
--- src/lib.rt:439:1
 returns-2 : tie.Need-returns-2
 returns-2 c = search (node-compound (encrypt symmetric) tt)
 
--- src/lib.rt:439:1
 returns-3 : tie.Need-returns-3
 returns-3 c = search (node-compound (encrypt asymmetric) tt)
 
--- src/lib.rt:439:1
 returns-4 : tie.Need-returns-4
 returns-4 c = search node-atomic
 

@@ -1,23 +1,18 @@
+-- `refused` meets its contract: a stage's refusal.
 use Rattle.machine.proofs.Runs.{refusal}
 use borrow.Author.Needs.{needs}
 use Rattle.machine.proofs.refused.Statement.{statement}
 use Rattle.machine.proofs.refused.Tie as tie
-use Rattle.machine.proofs.refused.Reads as reads
-use Rattle.machine.proofs.refused.Lts as lts
 
--- src/lib.rt:564:38
 enum-told : tie.Need-enum-told
 enum-told c = search needs
 
--- src/lib.rt:565:38
 enum-known-stage : tie.Need-enum-known-stage
 enum-known-stage c = search needs
 
--- src/lib.rt:560:1
 returns : tie.Need-returns
 returns c = search needs
 
--- src/lib.rt:560:1
 returns-2 : tie.Need-returns-2
 returns-2 c = search refusal
 

@@ -1,63 +1,45 @@
+-- `signal` meets its contract: the two tests, and no other letter.
 use Rattle.machine.proofs.Runs.{left-below, right-below, signal-equal, signal-inverse, signal-none}
 use borrow.Author.Needs.{needs}
 use Rattle.machine.proofs.signal.Statement.{statement}
 use Rattle.machine.proofs.signal.Tie as tie
-use Rattle.machine.proofs.signal.Reads as reads
-use Rattle.machine.proofs.signal.Lts as lts
-use Rattle.machine.proofs.Machine.do_match.Reads as do-match-reads
-use Rattle.machine.proofs.bit.Reads as bit-reads
-use Rattle.machine.proofs.test_of.Reads as test-of-reads
-use Rattle.submission.proofs.wide.Reads as wide-reads
 
--- src/lib.rt:545:9
 test-of-requires : tie.Need-test-of-requires
 test-of-requires c κs = search needs
 
--- src/lib.rt:546:9
 wide-requires : tie.Need-wide-requires
 wide-requires c κs = search needs
 
--- src/lib.rt:547:9
 wide-requires-2 : tie.Need-wide-requires-2
 wide-requires-2 c κs = search needs
 
--- src/lib.rt:548:13
 mul-a : tie.Need-mul-a
 mul-a c = search needs
 
--- src/lib.rt:548:13
 element-copy-out-a : tie.Need-element-copy-out-a
 element-copy-out-a c = search needs
 
--- src/lib.rt:549:13
 mul-b : tie.Need-mul-b
 mul-b c = search needs
 
--- src/lib.rt:549:13
 element-copy-out-b : tie.Need-element-copy-out-b
 element-copy-out-b c = search needs
 
--- src/lib.rt:551:9
 bit-requires : tie.Need-bit-requires
 bit-requires c κs = search needs
 
--- src/lib.rt:551:9
 returns : tie.Need-returns
 returns c = search signal-equal
 
--- src/lib.rt:554:20
 do-match-requires : tie.Need-do-match-requires
 do-match-requires c κs = (search needs, (search left-below, (search right-below, search needs)))
 
--- src/lib.rt:554:9
 bit-requires-2 : tie.Need-bit-requires-2
 bit-requires-2 c κs = search needs
 
--- src/lib.rt:554:9
 returns-2 : tie.Need-returns-2
 returns-2 c = search signal-inverse
 
--- src/lib.rt:541:1
 returns-3 : tie.Need-returns-3
 returns-3 c = search signal-none
 

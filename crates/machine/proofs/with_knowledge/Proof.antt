@@ -1,16 +1,10 @@
+-- `with_knowledge` meets its contract: the first i entries are in the registers.
 use borrow.Author.Needs.{needs}
 use Prim.Native.Nat.{_-_, _≤_}
 use Rattle.machine.specs.Code.{knowledge, Loaded}
 use Rattle.machine.proofs.Loads.{knowledge-none, knowledge-more, knowledge-all, entry-below, entry-space}
 use Rattle.machine.proofs.with_knowledge.Statement.{statement}
 use Rattle.machine.proofs.with_knowledge.Tie as tie
-use Rattle.machine.proofs.with_knowledge.Reads as reads
-use Rattle.machine.proofs.with_knowledge.Lts as lts
-use Rattle.machine.proofs.Machine.with_register.Reads as with-register-reads
-use Rattle.machine.proofs.with_terms.Reads as with-terms-reads
-use Rattle.submission.proofs.entries.Reads as entries-reads
-use Rattle.submission.proofs.entry_at.Reads as entry-at-reads
-use Rattle.submission.proofs.wide16.Reads as wide16-reads
 
 abbrev Inv-loop : tie.InvT-loop
 Inv-loop s m₀ n i₀ m i = (i ≤ n) × Loaded s (knowledge s i) m
@@ -18,43 +12,33 @@ Inv-loop s m₀ n i₀ m i = (i ≤ n) × Loaded s (knowledge s i) m
 abbrev μ-loop : tie.MeasureT-loop
 μ-loop s m₀ n i₀ m i = n - i
 
--- src/lib.rt:495:9
 with-terms-requires : tie.Need-with-terms-requires Inv-loop μ-loop
 with-terms-requires c κs = search needs
 
--- src/lib.rt:496:9
 entries-requires : tie.Need-entries-requires Inv-loop μ-loop
 entries-requires c κs = search needs
 
--- src/lib.rt:497:5
 loop-holds : tie.Need-loop-holds Inv-loop μ-loop
 loop-holds c = (search needs, search knowledge-none)
 
--- src/lib.rt:498:48
 entry-at-requires : tie.Need-entry-at-requires Inv-loop μ-loop
 entry-at-requires c κs = search needs
 
--- src/lib.rt:498:29
 wide16-requires : tie.Need-wide16-requires Inv-loop μ-loop
 wide16-requires c κs = search needs
 
--- src/lib.rt:498:9
 with-register-requires : tie.Need-with-register-requires Inv-loop μ-loop
 with-register-requires c κs = (search needs, (search entry-below, search entry-space))
 
--- src/lib.rt:497:9
 add-i : tie.Need-add-i Inv-loop μ-loop
 add-i c = search needs
 
--- src/lib.rt:497:5
 loop-less : tie.Need-loop-less Inv-loop μ-loop
 loop-less c = search needs
 
--- src/lib.rt:497:5
 loop-again : tie.Need-loop-again Inv-loop μ-loop
 loop-again c = (search needs, search knowledge-more)
 
--- src/lib.rt:491:1
 returns : tie.Need-returns Inv-loop μ-loop
 returns c = search knowledge-all
 

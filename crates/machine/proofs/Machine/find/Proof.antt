@@ -1,3 +1,4 @@
+-- `find` meets its contract: no node before i is the one that is looked for.
 use Rattle.machine.proofs.Finds.{found-here, found-later, found-none}
 use Prim.Native.Nat.{_-_}
 use Rattle.base.proofs.Scan.{scan}
@@ -5,10 +6,6 @@ use Rattle.base.proofs.First.{Passed}
 use Rattle.machine.specs.Code.{isNode}
 use Rattle.machine.proofs.Machine.find.Statement.{statement}
 use Rattle.machine.proofs.Machine.find.Tie as tie
-use Rattle.machine.proofs.Machine.find.Reads as reads
-use Rattle.machine.proofs.Machine.find.Lts as lts
-use Rattle.machine.proofs.index.Reads as index-reads
-use Rattle.machine.proofs.is_same.Reads as is-same-reads
 
 abbrev Inv-loop : tie.InvT-loop
 Inv-loop v self n i₀ i = Passed (isNode self v) n i
@@ -16,57 +13,44 @@ Inv-loop v self n i₀ i = Passed (isNode self v) n i
 abbrev μ-loop : tie.MeasureT-loop
 μ-loop v self n i₀ i = n - i
 
--- src/lib.rt:254:9
 loop-holds : tie.Need-loop-holds Inv-loop μ-loop
 loop-holds c = search scan
 
--- src/lib.rt:255:17
 index-requires : tie.Need-index-requires Inv-loop μ-loop
 index-requires c κs = search scan
 
--- src/lib.rt:256:24
 element-copy-out-is-same : tie.Need-element-copy-out-is-same Inv-loop μ-loop
 element-copy-out-is-same c = search scan
 
--- src/lib.rt:256:39
 mul-is-same : tie.Need-mul-is-same Inv-loop μ-loop
 mul-is-same c = search scan
 
--- src/lib.rt:256:39
 element-copy-out-is-same-2 : tie.Need-element-copy-out-is-same-2 Inv-loop μ-loop
 element-copy-out-is-same-2 c = search scan
 
--- src/lib.rt:256:54
 mul-is-same-2 : tie.Need-mul-is-same-2 Inv-loop μ-loop
 mul-is-same-2 c = search scan
 
--- src/lib.rt:256:54
 element-copy-out-is-same-3 : tie.Need-element-copy-out-is-same-3 Inv-loop μ-loop
 element-copy-out-is-same-3 c = search scan
 
--- src/lib.rt:256:16
 is-same-requires : tie.Need-is-same-requires Inv-loop μ-loop
 is-same-requires c κs = search scan
 
--- src/lib.rt:257:17
 returns : tie.Need-returns Inv-loop μ-loop
-returns c = search (found-here, found-later, found-none)
+returns c = search found-here
 
--- src/lib.rt:254:13
 add-i : tie.Need-add-i Inv-loop μ-loop
 add-i c = search scan
 
--- src/lib.rt:254:9
 loop-less : tie.Need-loop-less Inv-loop μ-loop
 loop-less c = search scan
 
--- src/lib.rt:254:9
 loop-again : tie.Need-loop-again Inv-loop μ-loop
-loop-again c = search (found-here, found-later, found-none)
+loop-again c = search found-later
 
--- src/lib.rt:249:5
 returns-2 : tie.Need-returns-2 Inv-loop μ-loop
-returns-2 c = search (found-here, found-later, found-none)
+returns-2 c = search found-none
 
 pub find-spec : {M : Type 1} → statement M
 find-spec =

@@ -1,35 +1,26 @@
+-- `node` reads the node n.
 use borrow.Author.Needs.{needs}
 use Rattle.machine.proofs.Machine.node.Statement.{statement}
 use Rattle.machine.proofs.Machine.node.Tie as tie
-use Rattle.machine.proofs.Machine.node.Reads as reads
-use Rattle.machine.proofs.Machine.node.Lts as lts
-use Rattle.machine.proofs.index.Reads as index-reads
 
--- src/lib.rt:241:13
 index-requires : tie.Need-index-requires
 index-requires c κs = search needs
 
--- src/lib.rt:243:19
 element-copy-out-t7 : tie.Need-element-copy-out-t7
 element-copy-out-t7 c = search needs
 
--- src/lib.rt:244:19
 mul-t8 : tie.Need-mul-t8
 mul-t8 c = search needs
 
--- src/lib.rt:244:19
 element-copy-out-t11 : tie.Need-element-copy-out-t11
 element-copy-out-t11 c = search needs
 
--- src/lib.rt:245:20
 mul-t12 : tie.Need-mul-t12
 mul-t12 c = search needs
 
--- src/lib.rt:245:20
 element-copy-out-t15 : tie.Need-element-copy-out-t15
 element-copy-out-t15 c = search needs
 
--- src/lib.rt:237:5
 returns : tie.Need-returns
 returns c = cc
 
