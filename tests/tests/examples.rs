@@ -50,3 +50,19 @@ fn each_is_in_the_documentation_with_its_verdict() {
         assert_eq!(documented(table, &name), first_line, "{name}");
     }
 }
+
+/// What stands beside the program `published`, which the gate runs: all examples, each after its
+/// length, and all their verdicts.
+#[test]
+fn the_gate_tries_each() {
+    let (mut bundle, mut verdicts) = (Vec::new(), Vec::new());
+    for name in names() {
+        let submission = submission(&name);
+        let length = u16::try_from(submission.len()).expect("a submission is short");
+        bundle.extend(length.to_be_bytes());
+        bundle.extend(submission);
+        verdicts.extend(file(&name, "out"));
+    }
+    assert!(bundle == include_bytes!("../../crates/published/stdin"));
+    assert!(verdicts == include_bytes!("../../crates/published/stdout"));
+}
