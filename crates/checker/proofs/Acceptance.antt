@@ -8,7 +8,7 @@ use borrow.Author.Tests.{ltb-false, le-ltb}
 use Rattle.base.proofs.Says.{not-not-false, none-fails}
 use Rattle.submission.specs.Answer.{done, passes, andThen}
 use Rattle.submission.specs.Contents.{Bytes}
-use Rattle.submission.specs.Record.{steps, verifying, wayAt}
+use Rattle.submission.specs.Record.{steps, wayAt}
 use Rattle.submission.specs.Claim.{wayOf}
 use Rattle.submission.specs.Check.{checks1to5}
 use Rattle.submission.proofs.Answer.{if-passes, at-passes, then-passes, answered-done}

@@ -1,7 +1,7 @@
 -- The answers as one number each: what a call returned for C, and what it stands for.
 use mathlib.Core.Path.{_≡_, sym, ap, _∙_}
 use mathlib.Core.List.{List}
-use Prim.Native.Nat.{ℕ, _+_, _*_}
+use Prim.Native.Nat.{ℕ}
 use Rattle.submission.specs.Answer.{Answer}
 use Rattle.checker.specs.declared.Verdict.{Verdict}
 use Rattle.checker.specs.Code.{answerOf, Checked, encoded, Encoded}

@@ -1,9 +1,9 @@
 -- A submission longer than the contents can describe is refused with 1 whatever its bytes are, so a reader of standard input may stop
 -- at 4,096 bytes.
 use mathlib.Core.Path.{_≡_, sym, _∙_}
-use mathlib.Core.Bool.{Bool, true, false, _||_, not}
+use mathlib.Core.Bool.{true, not}
 use mathlib.Core.List.{List}
-use Prim.Native.Nat.{ℕ, _+_, _*_, _≤_, _<_}
+use Prim.Native.Nat.{ℕ, _≤_, _<_}
 use native.Mathlib.Omega.{arith}
 use lib.Dec.{eqb, ltb}
 use mathlib.Core.Logic.{by-cases}
@@ -14,7 +14,7 @@ use borrow.Author.Tests.{ne-eqb}
 use Rattle.base.specs.First.{any}
 use Rattle.base.proofs.Bools.{or-right}
 use Rattle.submission.specs.Answer.{refused}
-use Rattle.submission.specs.Contents.{Bytes, byte, start, wrongLetter, wrongStart, badContents}
+use Rattle.submission.specs.Contents.{Bytes, start, wrongLetter, wrongStart, badContents}
 use Rattle.submission.specs.Check.{checks1to4, checks1to5}
 use Rattle.text.specs.Text.{answerText, refusedText}
 use Rattle.checker.specs.Check.{checks1to10, checkAnswer}

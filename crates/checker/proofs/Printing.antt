@@ -1,12 +1,12 @@
 -- The returns of `write_verdict`: the text of an acceptance and of a refusal, whole in a buffer that is long enough.
-use mathlib.Core.Path.{_≡_, refl, sym, ap, _∙_, subst}
+use mathlib.Core.Path.{_≡_, sym, ap, _∙_}
 use mathlib.Core.List.{List}
-use Prim.Native.Nat.{ℕ, _+_, _*_, _≤_, _<_}
+use Prim.Native.Nat.{ℕ, _<_}
 use native.Mathlib.Omega.{arith}
-use lib.ListN.{length, replicate, length-replicate}
+use lib.ListN.{replicate, length-replicate}
 use Rattle.submission.specs.Answer.{Answer, done, refused}
 use Rattle.submission.specs.Contents.{Bytes}
-use Rattle.submission.specs.Record.{entries, steps}
+use Rattle.submission.specs.Record.{entries}
 use Rattle.submission.proofs.Listed.{claimed}
 use Rattle.text.specs.Text.{answerText, refusedText}
 use Rattle.text.specs.Puts.{Puts}
@@ -14,7 +14,6 @@ use Rattle.text.proofs.Length.{accepted-whole, refused-whole}
 use Rattle.checker.specs.declared.Verdict.{Verdict}
 use Rattle.checker.specs.declared.Verdict.the-variants.{Accepted, Refused}
 use Rattle.checker.specs.Check.{checkAnswer}
-use Rattle.checker.specs.Page.{pageAfter}
 use Rattle.checker.specs.Text.{verdictText}
 use Rattle.checker.specs.Code.{answerOf, Checked, Printed}
 use Rattle.checker.proofs.Acceptance.{accepted-iff}

@@ -17,14 +17,13 @@ use Rattle.submission.specs.declared.Claim.{Claim}
 use Rattle.submission.specs.Contents.{Limited}
 use Rattle.submission.specs.Record.{entries, steps, pAt, wayAt, companion, areInverse}
 use Rattle.submission.specs.Claim.{another-step, at-start, inverse-key, wayOf}
-use Rattle.submission.specs.Answer.{passes, fails}
 use Rattle.submission.specs.Stage.{IsClaim}
 use Rattle.derivation.specs.declared.Step.{Step}
 use Rattle.derivation.specs.declared.Registers.{Registers}
 use Rattle.derivation.specs.Register.{written, isKnown}
 use Rattle.derivation.specs.Step.{secondAt}
 use Rattle.derivation.specs.Code.{IsStep, Registered, orNone}
-use Rattle.checker.specs.Check.{isPremise, samePremises, hasSecondWay, check9}
+use Rattle.checker.specs.Check.{isPremise, samePremises, hasSecondWay}
 use Rattle.checker.specs.Code.{otherWay}
 use Rattle.checker.proofs.Standing.{second-is}
 
@@ -134,11 +133,3 @@ module _ {s : List ℕ} {c : Claim} (h : IsClaim s c) where
 pub ruleset premises = (first-premise, second-premise, both-premises, no-premise, other-conclusion, other-rule, other-premises)
 
 pub ruleset ways = (known-at-start, known-at-end, by-another-step, by-start, by-inverse, by-none)
-
--- ---- check 9
-module _ (s : List ℕ) {b : Bool} (e : b ≡ hasSecondWay s (wayOf (wayAt s))) where
-  pub way-passes : b ≡ true → passes ≡ check9 s
-  way-passes f = rw (← e, f)
-
-  pub way-fails : {c : Claim} {k : ℕ} → IsClaim s c → b ≡ false → k ≡ c .step → fails 9 k ≡ check9 s
-  way-fails h f g = rw (← e, f, g, h .step)

@@ -1,12 +1,12 @@
 -- What holds of a submission that passed checks 1 to 7, of one that passed checks 1 to 10, and of its records as the code reads them.
 use mathlib.Core.Path.{_≡_}
-use mathlib.Core.Bool.{Bool, true, false, _&&_, cond}
+use mathlib.Core.Bool.{Bool, true, _&&_, cond}
 use mathlib.Core.List.{List}
 use Prim.Native.Nat.{ℕ, _<_}
 use Rattle.base.proofs.Says.{not-not-false}
 use Rattle.term.specs.Rule.{hasOne}
 use Rattle.submission.specs.declared.Claim.{Claim}
-use Rattle.submission.specs.Answer.{passes, fails}
+use Rattle.submission.specs.Answer.{fails, failsIf}
 use Rattle.submission.specs.Contents.{Limited}
 use Rattle.submission.specs.Record.{terms, steps, verifying, wayAt}
 use Rattle.submission.specs.Claim.{wayOf}
@@ -59,14 +59,11 @@ pub reachable-is : {s : List ℕ} {c : Claim} {a : Step} {u : ℕ} {r : Bool} �
 unfolding reachable
 reachable-is k x e f = rw (← (k .step), ← (x .first), ← (second-is x e)) f
 
-module _ (s : List ℕ) {b : Bool} (e : b ≡ reachable s) where
-  pub reachable-passes : b ≡ false → passes ≡ check8 s
-  reachable-passes f = rw (← e, f)
+-- a check that fails at the verifying step
+pub fails-at-step : {s : List ℕ} {c : Claim} {k : ℕ} (b : Bool) (number : ℕ) → IsClaim s c → k ≡ c .step → b ≡ true → fails number k ≡ failsIf b number (verifying s)
+fails-at-step b number h e f = rw (f, e, h .step)
 
-  pub reachable-fails : {c : Claim} {k : ℕ} → IsClaim s c → b ≡ true → k ≡ c .step → fails 8 k ≡ check8 s
-  reachable-fails h f g = rw (← e, f, g, h .step)
-
-pub ruleset founded = (founded-read, founded-limited, first-below, second-below, reachable-is, reachable-passes, reachable-fails)
+pub ruleset founded = (founded-read, founded-limited, first-below, second-below, reachable-is)
 
 -- ---- checks 1 to 10
 module _ {s : List ℕ} (h : Acceptable s) where

@@ -10,8 +10,8 @@ use lib.Dec.{eqb, leb}
 use borrow.Author.Tests.{eq-eqb, ne-eqb, eqb-true, le-leb, lt-leb}
 use Rattle.base.proofs.Order.{lt-or-ge}
 use Rattle.term.specs.Term.{head?, test, Cipher, symmetric, asymmetric, left, right, Head, pair, part, encrypt, decrypt}
-use Rattle.term.specs.Rule.{headOf}
-use Rattle.term.proofs.Rule.{ruleOf, rule-head}
+use Rattle.term.specs.Rule.{headOf, ruleOf}
+use Rattle.term.proofs.Rule.{rule-head}
 use Rattle.submission.specs.declared.Claim.{Claim}
 use Rattle.submission.specs.Claim.{at-start, inverse-key, wayOf}
 use Rattle.submission.specs.Stage.{IsClaim}

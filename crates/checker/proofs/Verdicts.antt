@@ -53,14 +53,14 @@ module _ (s page : List ℕ) where
   accepted-out e f g = record { answer = rw (e, f); bytes = g ∙ rw e }
 
 -- ---- the stages
--- what a stage said, and the verdict that was made of its refusal
+-- what a stage said that refused, and the answer that was made of it
 said : {r : Stage} {d : Check} (number place : ℕ) → checkOf r ≡ d → r ≡ stage.Refused number place → d ≡ fails number place
 said number place e q = sym e ∙ ap checkOf q
 
 of-refusal : {r : Stage} {w : Answer} (n number place : ℕ) → w ≡ answered (checkOf r) (done n) → r ≡ stage.Refused number place → w ≡ refused number place
 of-refusal n number place f q = f ∙ ap (λ x. answered (checkOf x) (done n)) q
 
--- that verdict
+-- the verdict of a stage
 pub verdict-passed : {r : Stage} (n : ℕ) → r ≡ stage.Passed → done n ≡ answered (checkOf r) (done n)
 verdict-passed n q = rw q
 

@@ -5,6 +5,9 @@ mod conditions;
 mod page;
 
 use submission::Stage;
+// The three calls stand together here.
+pub use deduction::deducible;
+pub use machine::run;
 ghost use mathlib.Core.Path.{_≡_};
 ghost use lib.ListN.{length, replicate};
 ghost use Rattle.submission.specs.Answer.{done, answered};
@@ -46,27 +49,27 @@ fn check_page(s: &[u8], page: &[u8]) -> Stage
 pub fn check(s: &[u8], page: &mut [u8]) -> Verdict
     ensures { λ r. ⌜ Checked (now (s .entry)) (now (page .entry)) r (now (page .exit)) ⌝ }
 {
-    let n = submission::steps(s);
+    let count = submission::steps(s);
     let reading = submission::check_reading(s);
     let Stage::Passed = reading else {
-        return verdict_of(reading, n);
+        return verdict_of(reading, count);
     };
     let checked = derivation::check_steps(s);
     let steps = checked.stage;
     let Stage::Passed = steps else {
-        return verdict_of(steps, n);
+        return verdict_of(steps, count);
     };
     let registers = checked.registers;
     let met = conditions::check_conditions(s, registers);
     let Stage::Passed = met else {
-        return verdict_of(met, n);
+        return verdict_of(met, count);
     };
     let room = check_page(s, page);
     let Stage::Passed = room else {
-        return verdict_of(room, n);
+        return verdict_of(room, count);
     };
     page::write_program(s, registers, page);
-    Verdict::Accepted(n)
+    Verdict::Accepted(count)
 }
 
 // The text of a verdict, with the program on its page of 388 bytes.

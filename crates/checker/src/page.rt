@@ -53,7 +53,7 @@ fn instruction_of(s: &[u8], registers: Registers, i: u8) -> Instruction
     let step = derivation::step_at(s, i);
     let rule = step.rule;
     let first = registers.lowest(step.p);
-    if derivation::has_one(rule) {
+    if submission::has_one(rule) {
         return Instruction {
             rule,
             first,

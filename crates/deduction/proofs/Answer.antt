@@ -12,7 +12,8 @@ use Rattle.base.proofs.Says.{denies, same-test, not-not-false}
 use Rattle.term.specs.Term.{Term}
 use Rattle.term.specs.Step.{Deducible}
 use Rattle.term.proofs.Reach.{Reach, known, reach-iff, reach-reach}
-use Rattle.term.proofs.Table.{Table, tables-agree}
+use Rattle.term.specs.Table.{Table}
+use Rattle.term.proofs.Table.{tables-agree}
 use Rattle.submission.specs.Answer.{done, refused, passes, failsIf, andThen}
 use Rattle.submission.specs.Contents.{Bytes}
 use Rattle.submission.specs.Check.{checks1to4}

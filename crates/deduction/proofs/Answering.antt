@@ -1,6 +1,6 @@
 -- The returns of `deducible`: a check's refusal, no such term, yes and no.
-use mathlib.Core.Path.{_≡_, refl, sym, ap, _∙_}
-use mathlib.Core.Bool.{Bool, true, false, not, cond}
+use mathlib.Core.Path.{_≡_, sym, ap, _∙_}
+use mathlib.Core.Bool.{Bool, true, false}
 use mathlib.Core.List.{List}
 use Prim.Native.Nat.{ℕ, _<_, _≤_}
 use native.Mathlib.Omega.{arith}
@@ -8,7 +8,7 @@ use lib.Dec.{ltb}
 use borrow.Author.Tests.{lt-ltb, le-ltb}
 use Rattle.submission.specs.declared.Stage.{Stage}
 use Rattle.submission.specs.declared.Stage.the-variants.{Passed, Refused}
-use Rattle.submission.specs.Answer.{Answer, done, refused, Check, failsIf, andThen, answered}
+use Rattle.submission.specs.Answer.{done, refused, answered}
 use Rattle.submission.specs.Contents.{Bytes}
 use Rattle.submission.specs.Record.{terms}
 use Rattle.submission.specs.Stage.{checkOf}

@@ -8,9 +8,9 @@ use native.Mathlib.Omega.{arith}
 use Rattle.base.proofs.Bools.{or-left, or-right, and-both}
 use Rattle.base.proofs.Says.{Says, says-and, says-or, says-true}
 use Rattle.term.specs.Term.{Term, Message}
-use Rattle.term.specs.Table.{Rec, leaf, branch}
+use Rattle.term.specs.Table.{Rec, leaf, branch, Below}
 use Rattle.term.proofs.Built.{Built, given, made}
-use Rattle.term.proofs.Table.{Below, branch-of, node-of, part-below}
+use Rattle.term.proofs.Table.{branch-of, node-of, part-below}
 use Rattle.submission.specs.Record.{terms, recordAt, term}
 use Rattle.submission.proofs.Listed.{Listed}
 use Rattle.deduction.specs.Deduce.{at, partsBuilt, builtWithin, built}

@@ -1,27 +1,26 @@
 -- The code's marks and its build test: what each store and each return of `entry_marks`, `inverses` and `build` gives.
 use mathlib.Core.Path.{_≡_, refl, sym, ap, _∙_, subst}
 use mathlib.Core.Logic.{_⊎_, inl, inr, ⊎-elim}
-use mathlib.Core.Bool.{Bool, true, false, _||_, _&&_, false≢true}
+use mathlib.Core.Bool.{Bool, true, false, _||_, _&&_, not, false≢true, true≢false}
 use mathlib.Core.List.{List}
-use mathlib.Core.Option.{Option, none, some}
+use mathlib.Core.Option.{none, some}
 use Prim.Native.Nat.{ℕ, zero, suc, _+_, _≤_, _<_}
 use native.Mathlib.Decide.{ℕ-discrete}
 use native.Mathlib.Omega.{arith}
 use lib.Dec.{eqb}
-use lib.ListN.{length, getD, set, replicate, length-set, length-replicate, List·getD-map, length-map}
+use lib.ListN.{length, getD, set, replicate, length-set, length-replicate, List·getD-map}
 use lib.Seq.{getD-set-same, getD-set-other}
 use borrow.Author.Count.{below-more}
 use borrow.Author.Tests.{eq-eqb, ne-eqb}
 use Rattle.base.specs.First.{first}
 use Rattle.base.proofs.First.{Passed, passed-hit, passed-all}
 use Rattle.base.proofs.Says.{says-eqb}
-use Rattle.term.specs.Term.{plain, public, private, symmetric, asymmetric, Head, pair, part, encrypt, decrypt}
-use Rattle.term.specs.Table.{Rec, leaf, branch}
-use Rattle.term.proofs.Table.{Below}
+use Rattle.term.specs.Term.{plain, public, private, symmetric, asymmetric, pair, part, encrypt, decrypt}
+use Rattle.term.specs.Table.{Rec, leaf, branch, Below}
 use Rattle.submission.specs.declared.Term.{Term}
 use Rattle.submission.specs.Stage.{IsTerm}
 use Rattle.submission.specs.Record.{terms, entries, entryAt, kindAt, xAt, yAt, nameAt, Shape, atomic, compound, shapeOf, recordOf, recordAt, areInverse}
-use Rattle.submission.proofs.Shape.{shape-kind, Shaped, Good}
+use Rattle.submission.proofs.Shape.{shape-kind, Shaped}
 use Rattle.submission.proofs.Listed.{Listed, listed}
 use Rattle.deduction.specs.Deduce.{at, partsBuilt, built}
 use Rattle.deduction.proofs.BuildTest.{built-eq}
@@ -89,6 +88,21 @@ module _ {p : ℕ → Bool} {n i : ℕ} (N : ℕ) (e : n ≡ N) (s : Passed p n 
 
   pub found-none : n ≤ i → 255 ≡ orNone (first p N)
   found-none b = sym (ap orNone (subst (λ k. first p k ≡ none) e (passed-all s b)))
+
+-- a term that is no key
+pub found-no-key : {s : List ℕ} {k : ℕ} {a : Term} {b : Bool} (N : ℕ) → IsTerm s k a → b ≡ (eqb (a .kind) 2 || eqb (a .kind) 3) → not b ≡ true → 255 ≡ orNone (first (areInverse s k) N)
+unfolding areInverse
+found-no-key {s} {k} {a} {b} N p e f =
+    let (two, three) = neither (eqb (a .kind) 2) (eqb (a .kind) 3) (sym e ∙ not-true b f) in
+    sym (ap orNone (passed-all {p = areInverse s k} {n = N} {i = N} (record { within = omega arith; failed = λ j _. rw (← (p .kind), two, three) }) (omega arith)))
+  where
+    not-true : (x : Bool) → not x ≡ true → x ≡ false
+    not-true true g = absurd (false≢true g)
+    not-true false g = refl
+
+    neither : (x y : Bool) → (x || y) ≡ false → (x ≡ false) × (y ≡ false)
+    neither true y g = absurd (true≢false g)
+    neither false y g = (refl, g)
 
 pub inverses-none : {s : List ℕ} (l : List ℕ) → length l ≡ 256 → Inverses s 0 l
 inverses-none l e = record { within = omega arith; long = e; is = λ k b. absurd (omega arith) }
@@ -195,7 +209,7 @@ module _ {s : List ℕ} (known : List ℕ) {t : ℕ} (w : Read s) (l : t < terms
   eq : built s (marksOf known) t ≡ (at (marksOf known) t || partsBuilt (built s (marksOf known)) (recordAt s t))
   eq = built-eq s (marksOf known) (facts w .table .earlier) t l
 
-  unmarked-at : {i : ℕ} → i ≡ t → (getD known i 0 ≡ 1 → ⊥) → at (marksOf known) t ≡ false
+  pub unmarked-at : {i : ℕ} → i ≡ t → (getD known i 0 ≡ 1 → ⊥) → at (marksOf known) t ≡ false
   unmarked-at e d = at-marks known t ∙ ne-eqb _ 1 (λ x. d (ap (λ k. getD known k 0) e ∙ x))
 
   -- a term of kind 4 or more is built when its parts are, an atom is not
@@ -206,7 +220,7 @@ module _ {s : List ℕ} (known : List ℕ) {t : ℕ} (w : Read s) (l : t < terms
       go (leaf κ n) f = absurd (omega arith)
       go (branch h x y) f = rw (f .1, f .2)
 
-  atom-built : at (marksOf known) t ≡ false → kindAt s t < 4 → built s (marksOf known) t ≡ false
+  pub atom-built : at (marksOf known) t ≡ false → kindAt s t < 4 → built s (marksOf known) t ≡ false
   atom-built e k = eq ∙ rw e (go (recordAt s t) (sorted (facts w) t l))
     where
       go : (r : Rec) → Sorted s t r → partsBuilt (built s (marksOf known)) r ≡ false

@@ -2,33 +2,32 @@
 -- leaves marks from which the deducible terms can be built.
 use mathlib.Core.Path.{_≡_, refl, sym, ap, _∙_, subst}
 use mathlib.Core.Logic.{_⊎_, inl, inr, ⊎-elim}
-use mathlib.Core.Bool.{Bool, true, false, _||_, _&&_, not, cond, false≢true, true≢false}
+use mathlib.Core.Bool.{Bool, true, false, _&&_, not, cond, false≢true, true≢false}
 use mathlib.Core.List.{List, [], _∷_}
 use mathlib.Core.Option.{Option, none, some}
 use Prim.Native.Nat.{ℕ, zero, suc, _+_, _-_, _≤_, _<_}
 use native.Mathlib.Decide.{ℕ-discrete}
 use native.Mathlib.Omega.{arith}
-use lib.Dec.{eqb}
+use lib.Dec.{eqb, ltb}
 use lib.ListN.{length, getD, set, replicate, length-set}
 use borrow.Author.Tests.{eq-eqb, ne-eqb}
-use Rattle.base.specs.First.{first, any}
+use Rattle.base.specs.First.{first}
 use Rattle.base.proofs.First.{first-none, first-some}
-use Rattle.base.proofs.Says.{says-eqb, says-or, says-and, says-any, says-true, not-not-false}
-use Rattle.term.specs.Term.{plain, public, private, Cipher, symmetric, asymmetric, Side, left, right, Head, pair, part, encrypt, decrypt, Match}
+use Rattle.base.proofs.Says.{says-eqb, says-ltb, says-or, says-and, says-any, says-true, not-not-false}
+use Rattle.term.specs.Term.{plain, public, private, Cipher, symmetric, asymmetric, Head, pair, encrypt}
 use Rattle.term.specs.Step.{Deducible}
-use Rattle.term.specs.Table.{Rec, leaf, branch}
+use Rattle.term.specs.Table.{branch, Below}
 use Rattle.term.proofs.Reduce.{match-det}
-use Rattle.term.proofs.Table.{Below}
-use Rattle.term.proofs.Reach.{Reach, known, reach-iff}
+use Rattle.term.proofs.Reach.{known, reach-iff}
 use Rattle.submission.specs.declared.Term.{Term}
 use Rattle.submission.specs.Stage.{IsTerm}
-use Rattle.submission.specs.Record.{terms, entries, entryAt, kindAt, xAt, yAt, nameAt, Shape, atomic, compound, shapeOf, recordOf, recordAt, term, InKnowledge, areInverse}
+use Rattle.submission.specs.Record.{terms, entries, entryAt, kindAt, xAt, yAt, nameAt, atomic, shapeOf, recordOf, recordAt, term, InKnowledge, areInverse}
 use Rattle.submission.proofs.Listed.{Listed}
 use Rattle.deduction.specs.Deduce.{at, built, opens, gives, entryMarks, isDeducible}
 use Rattle.deduction.specs.declared.Round.{Round}
-use Rattle.deduction.specs.Code.{Read, marksOf, Entered, orNone, Inverses, code, Memo, Decided, unmarked, Sound, Exact, withMark, Swept, Opened}
-use Rattle.deduction.proofs.Building.{facts, set-here, each-set, marked-at, memo-none, Sorted, sorted}
-use Rattle.deduction.proofs.Exact.{Saturated, gives-reached, built-is-deducible}
+use Rattle.deduction.specs.Code.{Read, marksOf, Entered, orNone, Inverses, code, Memo, Decided, unmarked, Sound, Exact, withMark, Swept, Opened, Unbuilt, Settled}
+use Rattle.deduction.proofs.Building.{facts, set-here, each-set, marked-at, memo-none, atom-built, unmarked-at}
+use Rattle.deduction.proofs.Exact.{gives-reached, built-is-deducible}
 
 -- ---- fewer terms are unmarked after each mark
 pub unmarked-less : (l : List ℕ) (t : ℕ) → t < length l → (getD l t 0 ≡ 1 → ⊥) → unmarked (set l t 1) < unmarked l
@@ -199,6 +198,19 @@ module _ {s inverses : List ℕ} (v : Read s) (u : Inverses s (terms s) inverses
           )
 
 -- ---- treating a record
+module _ {s : List ℕ} {t : ℕ} {a : Term} (v : Read s) (l : t < terms s) (i : IsTerm s t a) where
+  below : {h : Head} {x y : ℕ} → recordAt s t ≡ branch h x y → y < terms s
+  below {h} {x} {y} rec = let b : Below t (branch h x y) = subst (Below t) rec (facts v .table .earlier t l) in omega arith
+
+  pub symmetric-key : a .kind ≡ 5 → a .y < terms s
+  symmetric-key k = rw (i .y) (below (record-5 s t (sym (i .kind) ∙ k)))
+
+  key-term : a .kind ≡ 6 → yAt s t < terms s
+  key-term k = below (record-6 s t (sym (i .kind) ∙ k))
+
+  pub key-below : {inverses : List ℕ} {k : ℕ} → Inverses s (terms s) inverses → k ≡ a .y → a .kind ≡ 6 → (getD inverses k 0 ≡ 255 → ⊥) → getD inverses k 0 < terms s
+  key-below u f six d = the-key v u (key-term six) (f ∙ i .y) d .0
+
 module _ {s known : List ℕ} {t : ℕ} {r : Round} (v : Read s) (l : t < terms s) (w : Swept s known (t + 1) r) {j : ℕ} (e : j ≡ t) where
   pub not-marked : (getD (r .state) j 0 ≡ 1 → ⊥) → Swept s known t r
   not-marked d = next w refl (λ c m. absurd (d (rw (e, w .same c) m)))
@@ -216,6 +228,31 @@ module _ {s known : List ℕ} {t : ℕ} {r : Round} (v : Read s) (l : t < terms 
     pub take-other : (a .kind ≡ 4 → ⊥) → (a .kind ≡ 5 → ⊥) → (a .kind ≡ 6 → ⊥) → Swept s known t r
     take-other b c d =
         treated w refl (λ n g. absurd (true≢false (sym g ∙ record-other s t (λ x. b (i .kind ∙ x)) (λ x. c (i .kind ∙ x)) (λ x. d (i .kind ∙ x)) (marksOf known) n)))
+
+    -- an encryption whose key cannot be built
+    take-locked : (c : Cipher) → recordAt s t ≡ branch (encrypt c) (xAt s t) (yAt s t) → (opens c s (marksOf known) (yAt s t) ≡ true → ⊥) → Swept s known t r
+    take-locked c rec d = treated w refl (λ n h. absurd (d (says-and (eqb n (xAt s t)) (opens c s (marksOf known) (yAt s t)) (says-true _) (says-true _) .0 (rw rec at h) .1)))
+
+    -- an encryption whose body is marked
+    take-body : {k : ℕ} → (a .kind ≡ 4 → ⊥) → k ≡ a .x → getD (r .state) k 0 ≡ 1 → Swept s known t r
+    take-body d f g = go (ℕ-discrete (a .kind) 5) (ℕ-discrete (a .kind) 6)
+      where
+        given : (c : Cipher) → recordAt s t ≡ branch (encrypt c) (xAt s t) (yAt s t) → Swept s known t r
+        given c rec =
+            treated w refl
+            (λ n h. let (p, b) = says-and (eqb n (xAt s t)) (opens c s (marksOf known) (yAt s t)) (says-eqb n (xAt s t)) (says-true (opens c s (marksOf known) (yAt s t))) .0 (rw rec at h) in ap (λ z. getD (r .state) z 0) (p ∙ sym (i .x) ∙ sym f) ∙ g)
+
+        go : Dec (a .kind ≡ 5) → Dec (a .kind ≡ 6) → Swept s known t r
+        go (yes x) y = given symmetric (record-5 s t (sym (i .kind) ∙ x))
+        go (no x) (yes y) = given asymmetric (record-6 s t (sym (i .kind) ∙ y))
+        go (no x) (no y) = take-other d x y
+
+    -- a pair whose parts are marked
+    take-both : {j k : ℕ} → a .kind ≡ 4 → j ≡ a .x → getD (r .state) j 0 ≡ 1 → k ≡ a .y → getD (r .state) k 0 ≡ 1 → Swept s known t r
+    take-both c f x g y =
+        treated w refl
+        (λ n h. ⊎-elim (λ d. ap (λ z. getD (r .state) z 0) (d ∙ sym (i .x) ∙ sym f) ∙ x) (λ d. ap (λ z. getD (r .state) z 0) (d ∙ sym (i .y) ∙ sym g) ∙ y)
+        (says-or (eqb n (xAt s t)) (eqb n (yAt s t)) (says-eqb n (xAt s t)) (says-eqb n (yAt s t)) .0 (rw (record-4 s t (sym (i .kind) ∙ c)) at h)))
 
     pub take-pair : {p q : Round} → a .kind ≡ 4 → p ≡ withMark r (a .x) → q ≡ withMark p (a .y) → Swept s known t q
     take-pair {p} {q} k f g =
@@ -251,24 +288,56 @@ module _ {s known : List ℕ} {t : ℕ} {r : Round} (v : Read s) (l : t < terms 
         take-encrypted symmetric (a .y) (record-5 s t (sym (i .kind) ∙ k)) (λ b. rw (← y) b) (λ b. rw y b) o
 
     module _ {inverses : List ℕ} (u : Inverses s (terms s) inverses) {k : ℕ} (f : k ≡ a .y) (six : a .kind ≡ 6) where
-      key-term : yAt s t < terms s
-      key-term = let b : Below t (branch (encrypt asymmetric) (xAt s t) (yAt s t)) = subst (Below t) (record-6 s t (sym (i .kind) ∙ six)) (facts v .table .earlier t l) in omega arith
-
       pub take-no-key : getD inverses k 0 ≡ 255 → Swept s known t r
-      take-no-key g =
-          treated w refl (λ n h. absurd (no-key v u key-term (f ∙ i .y) g (marksOf known)
-          (says-and (eqb n (xAt s t)) (opens asymmetric s (marksOf known) (yAt s t)) (says-true _) (says-true _) .0 (rw (record-6 s t (sym (i .kind) ∙ six)) at h) .1)))
-
-      pub key-below : (getD inverses k 0 ≡ 255 → ⊥) → getD inverses k 0 < terms s
-      key-below d = the-key v u key-term (f ∙ i .y) d .0
+      take-no-key g = take-locked asymmetric (record-6 s t (sym (i .kind) ∙ six)) (no-key v u (key-term v l i six) (f ∙ i .y) g (marksOf known))
 
       pub take-asymmetric : {q : Round} → (getD inverses k 0 ≡ 255 → ⊥) → Opened s known (a .x) (getD inverses k 0) r q → Swept s known t q
       take-asymmetric d o =
-          let b = the-key v u key-term (f ∙ i .y) d .1 (marksOf known) in
+          let b = the-key v u (key-term v l i six) (f ∙ i .y) d .1 (marksOf known) in
           take-encrypted asymmetric _ (record-6 s t (sym (i .kind) ∙ six)) (b .0) (b .1) o
 
-    pub symmetric-key : a .kind ≡ 5 → a .y < terms s
-    symmetric-key k = let b : Below t (branch (encrypt symmetric) (xAt s t) (yAt s t)) = subst (Below t) (record-5 s t (sym (i .kind) ∙ k)) (facts v .table .earlier t l) in rw (i .y) (omega arith)
+-- ---- a record with nothing to give
+module _ {s known : List ℕ} {k : ℕ} where
+  pub not-missing : Unbuilt s known k false
+  not-missing = record { no = λ v l b. absurd (false≢true b) }
+
+  pub missing : {j : ℕ} {a : Term} → j ≡ k → (getD known j 0 ≡ 1 → ⊥) → IsTerm s k a → Unbuilt s known k (ltb (a .kind) 4)
+  missing {j} {a} e d i = record { no = λ v l b. atom-built known v l (unmarked-at known v l e d) (rw (← (i .kind)) (says-ltb _ 4 .0 b)) }
+
+module _ {s known state : List ℕ} {t : ℕ} where
+  pub settled-not : Settled s known state t false
+  settled-not = record { done = λ b. absurd (false≢true b) }
+
+  module _ (v : Read s) (l : t < terms s) {j : ℕ} (e : j ≡ t) where
+    pub settled-unmarked : (getD state j 0 ≡ 1 → ⊥) → Settled s known state t true
+    settled-unmarked d = record { done = λ b r q w. not-marked v l w e (rw q d) }
+
+    module _ (m : getD state j 0 ≡ 1) {a : Term} (i : IsTerm s t a) where
+      pub settled-pair : {k h : ℕ} → a .kind ≡ 4 → k ≡ a .x → getD state k 0 ≡ 1 → h ≡ a .y → Settled s known state t (eqb (getD state h 0) 1)
+      settled-pair {k} {h} c f x g = record { done = λ b r q w. take-both v l w e (rw q m) i c f (rw q x) g (rw q (says-eqb _ 1 .0 b)) }
+
+      pub settled-body : {k : ℕ} → (a .kind ≡ 4 → ⊥) → k ≡ a .x → getD state k 0 ≡ 1 → Settled s known state t true
+      settled-body d f g = record { done = λ b r q w. take-body v l w e (rw q m) i d f (rw q g) }
+
+      pub settled-other : (a .kind ≡ 4 → ⊥) → (a .kind ≡ 5 → ⊥) → (a .kind ≡ 6 → ⊥) → Settled s known state t true
+      settled-other x y z = record { done = λ b r q w. take-other v l w e (rw q m) i x y z }
+
+      pub settled-symmetric : {b : Bool} → a .kind ≡ 5 → Unbuilt s known (a .y) b → Settled s known state t b
+      settled-symmetric x u =
+          let y = i .y in
+          record {
+            done = λ b r q w. take-locked v l w e (rw q m) i symmetric (record-5 s t (sym (i .kind) ∙ x)) (λ o. let z : built s (marksOf known) (a .y) ≡ true = rw y o in true≢false (sym z ∙ u .no v (symmetric-key v l i x) b));
+          }
+
+      module _ {inverses : List ℕ} (u : Inverses s (terms s) inverses) {k : ℕ} (f : k ≡ a .y) (six : a .kind ≡ 6) where
+        pub settled-no-key : getD inverses k 0 ≡ 255 → Settled s known state t true
+        settled-no-key g = record { done = λ b r q w. take-no-key v l w e (rw q m) i u f six g }
+
+        pub settled-asymmetric : {b : Bool} → (getD inverses k 0 ≡ 255 → ⊥) → Unbuilt s known (getD inverses k 0) b → Settled s known state t b
+        settled-asymmetric d n = record {
+          done = λ b r q w. take-locked v l w e (rw q m) i asymmetric (record-6 s t (sym (i .kind) ∙ six))
+              (λ o. true≢false (sym (the-key v u (key-term v l i six) (f ∙ i .y) d .1 (marksOf known) .1 o) ∙ n .no v (key-below v l i u f six d) b));
+        }
 
 -- ---- the rounds
 pub entered-sound : {s l : List ℕ} → Entered s (entries s) l → Sound s l
@@ -291,6 +360,9 @@ swept-start o e = record {
 -- one record further down, and past the last
 pub swept-down : {s l : List ℕ} {r : Round} (i : ℕ) → 0 < i → Swept s l i r → Swept s l (i - 1 + 1) r
 swept-down {s} {l} {r} i b w = let e : i ≡ i - 1 + 1 = omega arith in swept-same w e
+
+pub swept-settled : {s l : List ℕ} {r : Round} {b : Bool} (i : ℕ) → 0 < i → Swept s l i r → Settled s l (r .state) (i - 1) b → b ≡ true → Swept s l (i - 1) r
+swept-settled {s} {l} {r} i c w d e = d .done e r refl (swept-down i c w)
 
 pub swept-all : {s l : List ℕ} {r : Round} (i : ℕ) → i ≤ 0 → Swept s l i r → Swept s l 0 r
 swept-all i b w = swept-same w (omega arith)

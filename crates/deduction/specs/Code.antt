@@ -101,3 +101,11 @@ pub record Swept (s known : List ℕ) (i : ℕ) (r : Round) : Type 0 where
 pub record Opened (s known : List ℕ) (body key : ℕ) (r q : Round) : Type 0 where
   pub kept : (i : ℕ) → Swept s known i r → (built s (marksOf known) key ≡ true → (body < terms s) × Deducible (InKnowledge s) (term s body)) → Swept s known i q
   pub gave : length (r .state) ≡ 256 → built s (marksOf known) key ≡ true → getD (q .state) body 0 ≡ 1
+
+-- where b is true, term k, if it is listed, cannot be built over the marks `known`
+pub record Unbuilt (s known : List ℕ) (k : ℕ) (b : Bool) : Type 0 where
+  pub no : Read s → k < terms s → b ≡ true → built s (marksOf known) k ≡ false
+
+-- where b is true, record t has nothing more to give to a round that has these marks by now: it counts as treated
+pub record Settled (s known state : List ℕ) (t : ℕ) (b : Bool) : Type 0 where
+  pub done : b ≡ true → (r : Round) → r .state ≡ state → Swept s known (t + 1) r → Swept s known t r

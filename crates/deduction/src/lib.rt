@@ -1,6 +1,8 @@
 // Deducibility from the knowledge, over all terms.
 // Promises: every function is total, for all bytes, and `deducible` answers what the definition `deducibleAnswer` gives, which is yes
 // exactly when some finite list of Dolev-Yao steps reaches the term from the knowledge.
+// Cost, for T terms: the inverses are found once, by at most T looks through the table. A round treats each term once and decides each
+// at most once, since the build test keeps its answers. Every round but the last marks a term. So at most T rounds of T terms.
 use submission::Stage;
 ghost use mathlib.Core.Path.{_≡_};
 ghost use mathlib.Core.Bool.{_&&_};
@@ -11,7 +13,7 @@ ghost use Rattle.submission.specs.Answer.{done, answered};
 ghost use Rattle.submission.specs.Record.{terms, entries, areInverse};
 ghost use Rattle.submission.specs.Stage.{checkOf};
 ghost use Rattle.deduction.specs.Deduce.{entryMarks, isDeducible, deducibleAnswer};
-ghost use Rattle.deduction.specs.Code.{answerOf, Read, Entered, orNone, Inverses, Memo, Decided, Sound, Exact, withMark, Swept, Opened};
+ghost use Rattle.deduction.specs.Code.{answerOf, Read, Entered, orNone, Inverses, Memo, Decided, Sound, Exact, withMark, Swept, Opened, Unbuilt, Settled};
 
 // What `deducible` answers.
 pub enum Deduced {
@@ -42,6 +44,10 @@ fn entry_marks(s: &[u8]) -> Marks
 fn inverse_of(s: &[u8], k: u8) -> u8
     ensures { λ r. ⌜ r ≡ orNone (first (areInverse (now (s .entry)) k) (terms (now (s .entry)))) ⌝ }
 {
+    let key = submission::term_at(s, k);
+    if !submission::is_key(key.kind) {
+        return 255;
+    }
     let n = submission::terms(s);
     for j in 0..n {
         if submission::are_inverse(s, k, j) {
@@ -146,6 +152,51 @@ fn opened(s: &[u8], known: &[u8; 256], r: Round, body: u8, key: u8) -> Round
     next
 }
 
+// Whether term k is an atom that is not known: that cannot be built.
+fn is_missing(s: &[u8], known: &[u8; 256], k: u8) -> bool
+    ensures { λ b. ⌜ Unbuilt (now (s .entry)) (now (known .entry)) k b ⌝ }
+{
+    if known[submission::wide(k)] == 1 {
+        return false;
+    }
+    let term = submission::term_at(s, k);
+    term.kind < 4
+}
+
+// Whether it shows at once that term t gives nothing new: it is not marked, or a pair whose parts are marked, or an encryption whose body is
+// marked or whose key is missing. So a round is handed on only where it may change.
+fn is_settled(s: &[u8], inverses: &[u8; 256], known: &[u8; 256], state: &[u8; 256], t: u8) -> bool
+    requires { ⌜ Read (now s) ⌝ }
+    requires { ⌜ t < terms (now s) ⌝ }
+    requires { ⌜ Inverses (now s) (terms (now s)) (now inverses) ⌝ }
+    ensures { λ b. ⌜ Settled (now (s .entry)) (now (known .entry)) (now (state .entry)) t b ⌝ }
+{
+    if state[submission::wide(t)] != 1 {
+        return true;
+    }
+    let term = submission::term_at(s, t);
+    if term.kind == 4 {
+        if state[submission::wide(term.x)] != 1 {
+            return false;
+        }
+        return state[submission::wide(term.y)] == 1;
+    }
+    if state[submission::wide(term.x)] == 1 {
+        return true;
+    }
+    if term.kind == 5 {
+        return is_missing(s, known, term.y);
+    }
+    if term.kind == 6 {
+        let key = inverses[submission::wide(term.y)];
+        if key == 255 {
+            return true;
+        }
+        return is_missing(s, known, key);
+    }
+    true
+}
+
 // The round with what term t gives where it is marked: a pair its parts, an encryption its body if the key that opens it can be built.
 fn taken_apart(s: &[u8], inverses: &[u8; 256], known: &[u8; 256], r: Round, t: u8) -> Round
     requires { ⌜ Read (now s) ⌝ }
@@ -190,6 +241,9 @@ fn sweep(s: &[u8], inverses: &[u8; 256], known: Marks) -> Round
     let mut i = submission::terms(s);
     while 0 < i {
         i -= 1;
+        if is_settled(s, inverses, &known.state, &r.state, i) {
+            continue;
+        }
         r = taken_apart(s, inverses, &known.state, r, i);
     }
     r

@@ -1,32 +1,14 @@
 -- Check 6 of a step, read off its record one test at a time.
-use mathlib.Core.Path.{_≡_, refl, sym}
-use mathlib.Core.Bool.{Bool, true, false, not, cond, and-false}
+use mathlib.Core.Path.{_≡_}
+use mathlib.Core.Bool.{Bool, true, not, and-false}
 use mathlib.Core.List.{List}
 use Prim.Native.Nat.{ℕ, _≤_, _<_}
-use lib.Dec.{eqb}
-use borrow.Author.Tests.{lt-ltb, le-ltb, ne-eqb, eqb-true}
-use Rattle.term.specs.Term.{symmetric, asymmetric, encrypt, decrypt, single}
-use Rattle.term.specs.Rule.{headOf, hasOne}
+use borrow.Author.Tests.{lt-ltb, le-ltb}
+use Rattle.term.specs.Rule.{headOf}
 use Rattle.submission.specs.Record.{terms}
 use Rattle.derivation.specs.declared.Step.{Step}
 use Rattle.derivation.specs.Step.{follows, badStep}
 use Rattle.derivation.specs.Code.{IsStep}
-
--- which rules have one premise
-pub has-one : (n : ℕ) → (n ≡ 1 → ⊥) → eqb n 2 ≡ hasOne n
-unfolding hasOne headOf
-has-one n d = go (eqb n 0) refl (eqb n 2) refl
-  where
-    last : (x y z : Bool) → single (cond x (encrypt symmetric) (cond y (decrypt symmetric) (cond z (encrypt asymmetric) (decrypt asymmetric)))) ≡ false
-    last true y z = refl
-    last false true z = refl
-    last false false true = refl
-    last false false false = refl
-
-    go : (x : Bool) → eqb n 0 ≡ x → (y : Bool) → eqb n 2 ≡ y → eqb n 2 ≡ hasOne n
-    go true e y f = rw (eqb-true n 0 e)
-    go false e true f = rw (eqb-true n 2 f)
-    go false e false f = rw (e, ne-eqb n 1 d, f) (sym (last (eqb n 3) (eqb n 4) (eqb n 5)))
 
 module _ {s : List ℕ} {i : ℕ} {r : Step} (h : IsStep s i r) where
   pub bad-rule : 7 ≤ r .rule → true ≡ badStep s i

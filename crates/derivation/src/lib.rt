@@ -35,22 +35,12 @@ pub fn step_at(s: &[u8], i: u8) -> Step
     }
 }
 
-// Whether a rule has one premise.
-pub fn has_one(rule: u8) -> bool
-    ensures { λ r. ⌜ r ≡ hasOne rule ⌝ }
-{
-    if rule == 1 {
-        return true;
-    }
-    rule == 2
-}
-
 // The second premise; one premise counts as both.
 pub fn second_of(step: Step) -> u8
     ensures { λ r. ⌜ r ≡ cond (hasOne (step .rule)) (step .p) (step .q) ⌝ }
 {
     let rule = step.rule;
-    if has_one(rule) {
+    if submission::has_one(rule) {
         return step.p;
     }
     step.q

@@ -13,21 +13,24 @@ use borrow.Author.Count.{below-more}
 use Rattle.base.specs.Grow.{grow}
 use Rattle.base.proofs.Grow.{length-listed}
 use Rattle.term.specs.Term.{Kind, plain, public, private, symmetric, asymmetric, Head, pair, part, encrypt, decrypt, atom}
-use Rattle.term.specs.Table.{leaf, message, void, decoded}
-use Rattle.term.proofs.Rule.{ruleOf}
-use Rattle.term.proofs.Table.{Table}
+use Rattle.term.specs.Table.{leaf, message, void, decoded, Table}
+use Rattle.term.specs.Rule.{ruleOf}
 use Rattle.submission.specs.declared.Term.{Term as TermRead}
 use Rattle.submission.specs.Record.{kindOf, terms, entries, entryAt, guess, kindAt, nameAt, Shape, atomic, compound, shapeOf, recordAt, term}
 use Rattle.submission.specs.Stage.{IsTerm}
 use Rattle.submission.proofs.Shape.{shape-kind, Listable, kind-shape, Shaped}
-use Rattle.submission.proofs.Listed.{Listed, Claimed}
+use Rattle.submission.proofs.Listed.{Claimed, claimed}
 use Rattle.machine.specs.declared.Node.{Node}
 use Rattle.machine.specs.declared.Machine.{Machine}
 use Rattle.machine.specs.declared.Interned.{Interned}
 use Rattle.machine.specs.Run.{atomKind, guessed, initial}
-use Rattle.machine.specs.Code.{recordFor, nodeFor, nodeIn, nodeAt, termAt, values, Sound, Fit, Has, Stored, knowledge, Loaded, Started}
+use Rattle.machine.specs.Code.{recordFor, nodeFor, nodeIn, nodeAt, termAt, values, Sound, Fit, Has, Stored, Read, knowledge, Loaded, Started}
 use Rattle.machine.proofs.Nodes.{atom-record, record-node}
 use Rattle.machine.proofs.States.{decoded-alike, withNode, Room, node-old, node-new}
+
+-- what holds of the terms, and of the claim, after checks 1 to 5
+pub facts : {s : List ℕ} → Read s → Claimed s
+facts {s} w = claimed s (w .bytes) (w .passed)
 
 -- ---- the node of a record
 kind-fits : (κ : Kind) → Fits w8 (128 + kindOf (atomic κ))
@@ -55,10 +58,10 @@ atomic-node : (s : List ℕ) (t : ℕ) (κ : Kind) → shapeOf (kindAt s t) ≡ 
 unfolding recordAt
 atomic-node s t κ p = rw p
 
-module _ {s : List ℕ} {t : ℕ} {z : TermRead} (w : Listed s) (l : t < terms s) (e : IsTerm s t z) (a : z .kind ≡ 4 → ⊥) (b : z .kind ≡ 5 → ⊥) (c : z .kind ≡ 6 → ⊥) where
+module _ {s : List ℕ} {t : ℕ} {z : TermRead} (w : Read s) (l : t < terms s) (e : IsTerm s t z) (a : z .kind ≡ 4 → ⊥) (b : z .kind ≡ 5 → ⊥) (c : z .kind ≡ 6 → ⊥) where
   kind-of : (κ : Kind) × (shapeOf (kindAt s t) ≡ some (atomic κ)) × (z .kind ≡ kindOf (atomic κ))
   kind-of =
-      let g = w .good t l in
+      let g = facts w .read .good t l in
       let k : z .kind ≡ kindOf (g .shape) = e .kind ∙ shape-kind _ _ (g .has) in
       let (κ, q) = atomic-shape s t (g .shape) (g .fits) (λ p. a (k ∙ p)) (λ p. b (k ∙ p)) (λ p. c (k ∙ p)) in
       (κ, g .has ∙ ap some q, k ∙ ap kindOf q)
@@ -88,7 +91,7 @@ filled-none s u h l r = record { heads = h; lefts = l; rights = r; nodes = λ k 
 abbrev at : Machine → ℕ → Machine
 at m t = record { heads = m .heads; lefts = m .lefts; rights = m .rights; nodes = t; registers = m .registers; used = m .used }
 
-module _ {s : List ℕ} {m : Machine} {t : ℕ} (w : Listed s) (f : Filled s m t) where
+module _ {s : List ℕ} {m : Machine} {t : ℕ} (w : Read s) (f : Filled s m t) where
   pub filled-more : {k n : ℕ} {v : Node} → t < n → n ≡ terms s → k ≡ t → v ≡ nodeFor (recordAt s t) →
       Filled s (record { heads = set (m .heads) k (v .head); lefts = set (m .lefts) k (v .left); rights = set (m .rights) k (v .right); nodes = m .nodes; registers = m .registers; used = m .used }) (t + 1)
   filled-more {v = v} b c e g = rw e (record {
@@ -100,7 +103,7 @@ module _ {s : List ℕ} {m : Machine} {t : ℕ} (w : Listed s) (f : Filled s m t
   })
     where
       room : Room (at m t)
-      room = record { heads = omega (arith, f .heads, w .terms-most); lefts = omega (arith, f .lefts, w .terms-most); rights = omega (arith, f .rights, w .terms-most) }
+      room = record { heads = omega (arith, f .heads, facts w .read .terms-most); lefts = omega (arith, f .lefts, facts w .read .terms-most); rights = omega (arith, f .rights, facts w .read .terms-most) }
 
   module _ (l : terms s ≤ t) where
     record-at : (k : ℕ) → k < terms s → nodeAt m k ≡ recordAt s k
@@ -113,9 +116,9 @@ module _ {s : List ℕ} {m : Machine} {t : ℕ} (w : Listed s) (f : Filled s m t
     unfolding termAt term
     terms-sound = record {
       table = subst (λ ts. Table (nodeAt m) (terms s) (λ k. getD ts k void)) (sym same-terms) (record {
-        reads = λ k b. w .table .reads k b ∙ ap (message (term s)) (sym (record-at k b));
-        earlier = λ k b. rw (record-at k b) (w .table .earlier k b);
-        distinct = λ j k b c e. w .table .distinct j k b c (sym (record-at j b) ∙ e ∙ record-at k c);
+        reads = λ k b. facts w .read .table .reads k b ∙ ap (message (term s)) (sym (record-at k b));
+        earlier = λ k b. rw (record-at k b) (facts w .read .table .earlier k b);
+        distinct = λ j k b c e. facts w .read .table .distinct j k b c (sym (record-at j b) ∙ e ∙ record-at k c);
       });
       canonical = λ k b. ap nodeFor (record-at k b) ∙ sym (f .nodes k (omega arith));
       written = λ r b. absurd (omega (arith, f .used));
@@ -142,12 +145,12 @@ pub knowledge-none : {s : List ℕ} {m : Machine} → Loaded s [] m → Loaded s
 unfolding grow
 knowledge-none w = w
 
-module _ {s : List ℕ} {m : Machine} {i n : ℕ} (w : Listed s) (h : Loaded s (knowledge s i) m) (l : i < n) (c : n ≡ entries s) where
+module _ {s : List ℕ} {m : Machine} {i n : ℕ} (w : Read s) (h : Loaded s (knowledge s i) m) (l : i < n) (c : n ≡ entries s) where
   pub entry-below : {a x : ℕ} → a ≡ entryAt s i → x ≡ a → x < m .nodes
-  entry-below e f = omega (arith, w .entry-below i (omega arith), h .nodes)
+  entry-below e f = omega (arith, facts w .read .entry-below i (omega arith), h .nodes)
 
   pub entry-space : m .used < 256
-  entry-space = omega (arith, h .used, knowledge-length s i, w .entries-most)
+  entry-space = omega (arith, h .used, knowledge-length s i, facts w .read .entries-most)
 
   pub knowledge-more : {a x : ℕ} {r : Machine} → Stored m x r → a ≡ entryAt s i → x ≡ a → Loaded s (knowledge s (i + 1)) r
   unfolding grow
@@ -162,36 +165,36 @@ pub knowledge-all : {s : List ℕ} {m : Machine} {i n : ℕ} → Loaded s (knowl
 knowledge-all {s} {m} {i} {n} h a b c = let e : i ≡ entries s = omega arith in rw (← e) h
 
 -- ---- the guess
-module _ {s : List ℕ} {g : ℕ} {z : TermRead} (w : Claimed s) (e : IsTerm s g z) (f : g ≡ guess s) where
-  guess-kind : z .kind ≡ kindOf (atomic (w .guess-kind))
-  guess-kind = e .kind ∙ ap (kindAt s) f ∙ shape-kind _ _ (w .guess-shape)
+module _ {s : List ℕ} {g : ℕ} {z : TermRead} (w : Read s) (e : IsTerm s g z) (f : g ≡ guess s) where
+  guess-kind : z .kind ≡ kindOf (atomic (facts w .guess-kind))
+  guess-kind = e .kind ∙ ap (kindAt s) f ∙ shape-kind _ _ (facts w .guess-shape)
 
   pub guess-fits : Fits w8 (128 + z .kind)
-  guess-fits = rw guess-kind (kind-fits (w .guess-kind))
+  guess-fits = rw guess-kind (kind-fits (facts w .guess-kind))
 
   module _ {m : Machine} (name : ℕ) (h : Loaded s (knowledge s (entries s)) m) where
-    guess-record : recordFor (record { head = 128 + z .kind; left = name; right = 0 }) ≡ leaf (w .guess-kind) name
-    guess-record = rw guess-kind (atom-record (w .guess-kind) name 0)
+    guess-record : recordFor (record { head = 128 + z .kind; left = name; right = 0 }) ≡ leaf (facts w .guess-kind) name
+    guess-record = rw guess-kind (atom-record (facts w .guess-kind) name 0)
 
     pub guess-fit : Fit m (record { head = 128 + z .kind; left = name; right = 0 })
     guess-fit = record {
       sound = h .holds .sound;
       canonical = rw guess-record (rw guess-kind refl);
       low = rw guess-record tt;
-      room = omega (arith, h .nodes, w .read .terms-most);
+      room = omega (arith, h .nodes, facts w .read .terms-most);
     }
 
     module _ {i : Interned} (d : Has m (record { head = 128 + z .kind; left = name; right = 0 }) i) where
       pub guess-space : i .machine .used < 256
-      guess-space = omega (arith, d .used, h .used, knowledge-length s (entries s), w .read .entries-most)
+      guess-space = omega (arith, d .used, h .used, knowledge-length s (entries s), facts w .read .entries-most)
 
       pub guess-started : {r : Machine} → Stored (i .machine) (i .number) r → Started s name r
       unfolding initial guessed
       guess-started q = record {
         holds = record {
           sound = q .holds .sound;
-          is = q .holds .is ∙ ap₂ (λ vs t. vs ++ t ∷ []) (d .holds .is ∙ h .holds .is) (d .is ∙ ap (message (termAt m)) guess-record ∙ ap (λ o. atom (atomKind o) name) (sym (w .guess-shape)));
+          is = q .holds .is ∙ ap₂ (λ vs t. vs ++ t ∷ []) (d .holds .is ∙ h .holds .is) (d .is ∙ ap (message (termAt m)) guess-record ∙ ap (λ o. atom (atomKind o) name) (sym (facts w .guess-shape)));
         };
         used = omega (arith, q .used, d .used, h .used, knowledge-length s (entries s));
-        few = omega (arith, q .nodes, d .few, h .nodes, w .read .terms-most);
+        few = omega (arith, q .nodes, d .few, h .nodes, facts w .read .terms-most);
       }

@@ -3,8 +3,7 @@ use mathlib.Core.Path.{_≡_, refl, sym, ap, _∙_}
 use Prim.Native.Nat.{ℕ, _+_, _<_}
 use Rattle.term.specs.Term.{Kind, plain, public, private, symmetric, asymmetric, left, right, Head, pair, part, encrypt, decrypt, Term, atom, node}
 use Rattle.term.specs.Table.{Rec, leaf, branch, message}
-use Rattle.term.specs.Rule.{headOf}
-use Rattle.term.proofs.Rule.{ruleOf}
+use Rattle.term.specs.Rule.{headOf, ruleOf}
 use Rattle.term.proofs.Table.{part-below, node-of, branch-of, leaf-of}
 use Rattle.submission.specs.Record.{kindOf, atomic, shapeOf}
 use Rattle.machine.specs.declared.Machine.{Machine}

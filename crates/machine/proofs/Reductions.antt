@@ -10,10 +10,10 @@ use Rattle.base.proofs.Says.{Says, says-eqb, says-and, denies}
 use Rattle.term.specs.Term.{Cipher, Side, left, right, Head, pair, part, Term, atom, node, head?, term?, test, Match}
 use Rattle.term.specs.Table.{branch, message}
 use Rattle.term.specs.Reduce.{match?, cancelled, paired, parted, pick}
-use Rattle.term.specs.Rule.{rules, headOf}
+use Rattle.term.specs.Rule.{rules, headOf, ruleOf}
 use Rattle.term.proofs.Reduce.{says-test}
-use Rattle.term.proofs.Rule.{ruleOf, rule-head}
-use Rattle.term.proofs.Table.{choose, decode-inj}
+use Rattle.term.proofs.Rule.{rule-head}
+use Rattle.term.proofs.Table.{decode-inj}
 use Rattle.machine.specs.declared.Node.{Node}
 use Rattle.machine.specs.declared.Machine.{Machine}
 use Rattle.machine.specs.declared.Interned.{Interned}
@@ -155,7 +155,7 @@ part-some : (s : Side) (x y b : Term) → parted s (node pair x y) b ≡ pick s 
 unfolding parted
 part-some s x y b = refl
 
-picked : (T : ℕ → Term) (s : Side) (x y : ℕ) → pick s (T x) (T y) ≡ T (choose s x y)
+picked : (T : ℕ → Term) (s : Side) (x y : ℕ) → pick s (T x) (T y) ≡ T (pick s x y)
 picked T left x y = refl
 picked T right x y = refl
 
@@ -164,15 +164,15 @@ module _ {m r : Machine} {a : ℕ} {x : Node} (s : Side) (w : Ready m a a) (e : 
   part-other rule q d g =
       named g (part-none s _ _ (λ y z f. d (read-node (w .sound) (w .first) e f .0)) ∙ ap (λ h. node h (termAt m a) (termAt m a)) (sym q))
 
-  module _ {n : ℕ} (h : x .head ≡ 0) (q : n ≡ choose s (x .left) (x .right)) where
+  module _ {n : ℕ} (h : x .head ≡ 0) (q : n ≡ pick s (x .left) (x .right)) where
     pub part-here : Stored m n r → Gives m (parted s (termAt m a) (termAt m a)) r
     unfolding headOf
     part-here g =
         stored g (ap (λ z. parted s z (termAt m a)) (term-is (w .sound) (w .first) e h (omega arith)) ∙ part-some s _ _ _ ∙ picked (termAt m) s _ _ ∙ ap (termAt m) (sym q))
 
-pub part-below : {m : Machine} {a n : ℕ} {x : Node} (s : Side) → Ready m a a → x ≡ nodeIn m a → x .head ≡ 0 → n ≡ choose s (x .left) (x .right) → n < m .nodes
+pub part-below : {m : Machine} {a n : ℕ} {x : Node} (s : Side) → Ready m a a → x ≡ nodeIn m a → x .head ≡ 0 → n ≡ pick s (x .left) (x .right) → n < m .nodes
 part-below {m} {x = x} s w e h q = rw q (of s)
   where
-    of : (s : Side) → choose s (x .left) (x .right) < m .nodes
+    of : (s : Side) → pick s (x .left) (x .right) < m .nodes
     of left = left-below (w .sound) (w .first) e h (omega arith)
     of right = right-below (w .sound) (w .first) e h (omega arith)

@@ -1,5 +1,5 @@
 -- Check 13, one test at a time: what makes an instruction, a test or a program bad.
-use mathlib.Core.Path.{_≡_, refl, sym, _∙_}
+use mathlib.Core.Path.{_≡_, refl, _∙_}
 use mathlib.Core.Bool.{Bool, true, false, not, _&&_, cond, and-false, or-true}
 use mathlib.Core.Option.{none, some}
 use mathlib.Core.List.{List}
@@ -8,36 +8,15 @@ use Prim.Native.Nat.{ℕ, _+_, _*_, _≤_, _<_, suc-le-suc}
 use lib.Dec.{eqb, ltb, leb}
 use lib.ListN.{length}
 use native.Mathlib.Omega.{arith}
-use borrow.Author.Tests.{eq-eqb, ne-eqb, eqb-true, lt-ltb, le-ltb, le-leb, lt-leb}
+use borrow.Author.Tests.{eq-eqb, ne-eqb, lt-ltb, le-ltb, le-leb, lt-leb}
 use Rattle.base.specs.First.{any}
 use Rattle.base.proofs.First.{Passed}
 use Rattle.base.proofs.Scan.{true-any, false-any}
 use Rattle.base.proofs.Order.{lt-or-ge}
-use Rattle.term.specs.Term.{symmetric, asymmetric, pair, encrypt, decrypt, single}
-use Rattle.term.specs.Rule.{rules, headOf, hasOne}
+use Rattle.term.specs.Rule.{rules, hasOne}
 use Rattle.submission.specs.Contents.{byte}
 use Rattle.submission.specs.Record.{entries}
 use Rattle.machine.specs.Program.{Instruction, Test, inverse, relationOf, isTest, instructionAt, testOf, badInstruction, badTest, badProgram}
-
--- ---- rules with one operand
-pub one-first : {n : ℕ} → n ≡ 1 → true ≡ hasOne n
-unfolding hasOne headOf
-one-first e = rw e
-
-two-operands : (p q r t : Bool) → single (cond p pair (cond q (encrypt symmetric) (cond r (decrypt symmetric) (cond t (encrypt asymmetric) (decrypt asymmetric))))) ≡ false
-two-operands true q r t = refl
-two-operands false true r t = refl
-two-operands false false true t = refl
-two-operands false false false true = refl
-two-operands false false false false = refl
-
-pub one-second : {n : ℕ} → (n ≡ 1 → ⊥) → eqb n 2 ≡ hasOne n
-unfolding hasOne headOf
-one-second {n} a = go (eqb n 2) refl
-  where
-    go : (b : Bool) → eqb n 2 ≡ b → eqb n 2 ≡ hasOne n
-    go true e = rw (eqb-true n 2 e)
-    go false e = rw (e, ne-eqb n 1 a) (sym (two-operands (eqb n 0) (eqb n 3) (eqb n 4) (eqb n 5)))
 
 -- a register that is not yet written
 unwritten : (x n : ℕ) → leb n x ≡ not (ltb x n)

@@ -22,14 +22,14 @@ use Rattle.submission.specs.Contents.{Bytes, byte}
 use Rattle.submission.specs.Record.{entries}
 use Rattle.submission.specs.Check.{checks1to5}
 use Rattle.submission.specs.Stage.{checkOf}
-use Rattle.submission.proofs.Listed.{Claimed, claimed}
 use Rattle.machine.specs.declared.Machine.{Machine}
 use Rattle.machine.specs.declared.Outcome.{Outcome}
 use Rattle.machine.specs.Program.{Instruction, Test, Relation, equal, inverse, relationOf, isTest, operand, instructionAt, testOf, programLength, badInstruction, badTest, badProgram}
 use Rattle.machine.specs.Run.{executed, registers, holds, signals, signal, runAnswer}
-use Rattle.machine.specs.Code.{answerOf, termAt, register, values, Gives, Executable, Started, Running, Testable}
+use Rattle.machine.specs.Code.{answerOf, termAt, register, values, Gives, Executable, Read, Started, Running, Testable}
 use Rattle.machine.proofs.Executes.{value-at}
 use Rattle.machine.proofs.Keys.{one-term}
+use Rattle.machine.proofs.Loads.{facts}
 use Rattle.machine.proofs.Refuse.{badAt}
 
 -- ---- a program that passes check 13
@@ -71,7 +71,7 @@ pub running-none : (P : List ℕ) {s : List ℕ} {name : ℕ} {m : Machine} → 
 unfolding registers grow
 running-none P w = record { holds = w .holds; used = omega (arith, w .used); few = omega (arith, w .few) }
 
-module _ {s P : List ℕ} {name i n : ℕ} {m : Machine} {x : Instruction} (w : Claimed s) (g : badProgram s P ≡ false) (h : Running s name P i m) (l : i < n) (c : n ≡ byte P 0) (e : x ≡ instructionAt P i) where
+module _ {s P : List ℕ} {name i n : ℕ} {m : Machine} {x : Instruction} (w : Read s) (g : badProgram s P ≡ false) (h : Running s name P i m) (l : i < n) (c : n ≡ byte P 0) (e : x ≡ instructionAt P i) where
   pub instruction-executable : Executable m x
   instruction-executable =
       let z = good s P g in
@@ -82,7 +82,7 @@ module _ {s P : List ℕ} {name i n : ℕ} {m : Machine} {x : Instruction} (w : 
         first = rw (e, h .used) a;
         second = rw (e, h .used) b;
         room = omega (arith, h .few, z .few);
-        space = omega (arith, h .used, z .few, w .read .entries-most);
+        space = omega (arith, h .used, z .few, facts w .read .entries-most);
       }
 
   pub running-more : {r : Machine} → Gives m (executed (values m) x) r → Running s name P (i + 1) r
@@ -132,8 +132,8 @@ module _ (P : List ℕ) {m : Machine} {u : Test} {p q : ℕ} (w : Testable m (te
 pub refusal : (st : Stage) {m k : ℕ} → st ≡ Refused m k → refused m k ≡ answered (checkOf st) (done 0)
 refusal st e = rw e
 
-pub test-ready : (s P : List ℕ) {name : ℕ} {m : Machine} → Claimed s → badProgram s P ≡ false → Running s name P (byte P 0) m → Testable m (testOf P)
-test-ready s P w g h =
+pub test-ready : (s P : List ℕ) {name : ℕ} {m : Machine} → badProgram s P ≡ false → Running s name P (byte P 0) m → Testable m (testOf P)
+test-ready s P g h =
     let z = good s P g in
     let (a, b) = good-test _ _ (z .test) in
     record { sound = h .holds .sound; first = rw (h .used) a; second = rw (h .used) b; room = omega (arith, h .few, z .few) }
@@ -152,5 +152,5 @@ module _ (s P : List ℕ) (name : ℕ) {st : Stage} (e : checkOf st ≡ checks1t
     unfolding runAnswer signal
     run-signals t h k = rw (← e, p, ← g, t, k, h .holds .is)
 
-pub read : (s : List ℕ) {st : Stage} → Bytes s → checkOf st ≡ checks1to5 s → st ≡ Passed → Claimed s
-read s b e p = claimed s b (sym e ∙ ap checkOf p)
+pub read : (s : List ℕ) {st : Stage} → Bytes s → checkOf st ≡ checks1to5 s → st ≡ Passed → Read s
+read s b e p = record { bytes = b; passed = sym e ∙ ap checkOf p }

@@ -15,8 +15,8 @@ use Rattle.base.specs.First.{first}
 use Rattle.base.proofs.First.{first-none}
 use Rattle.base.specs.Grow.{grow}
 use Rattle.base.proofs.Grow.{length-grow}
-use Rattle.term.specs.Table.{Rec, message, void, decoded}
-use Rattle.term.proofs.Table.{Table, extended}
+use Rattle.term.specs.Table.{Rec, message, void, decoded, Table}
+use Rattle.term.proofs.Table.{extended}
 use Rattle.machine.specs.declared.Node.{Node}
 use Rattle.machine.specs.declared.Machine.{Machine}
 use Rattle.machine.specs.Code.{recordFor, nodeFor, nodeIn, nodeAt, termAt, register, values, Sound, isNode, Fit, Has, Stored}

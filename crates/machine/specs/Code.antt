@@ -8,14 +8,14 @@ use Prim.Native.Nat.{ℕ, _+_, _-_, _≤_, _<_}
 use lib.Dec.{eqb, ltb}
 use lib.ListN.{length, getD}
 use Rattle.base.specs.Grow.{listed}
-use Rattle.term.specs.Term.{symmetric, asymmetric, left, right, part, Term}
+use Rattle.term.specs.Term.{symmetric, asymmetric, left, right, Term}
 use Rattle.term.specs.Term as words
-use Rattle.term.specs.Table.{Rec, leaf, branch, decoded, void, message}
-use Rattle.term.specs.Rule.{rules, headOf}
-use Rattle.term.proofs.Rule.{ruleOf}
-use Rattle.term.proofs.Table.{Below, Table}
-use Rattle.submission.specs.Answer.{Answer, done, refused}
+use Rattle.term.specs.Table.{Rec, leaf, branch, decoded, void, message, Below, Table}
+use Rattle.term.specs.Rule.{rules, headOf, ruleOf}
+use Rattle.submission.specs.Answer.{Answer, done, refused, passes}
+use Rattle.submission.specs.Contents.{Bytes}
 use Rattle.submission.specs.Record.{kindOf, terms, entries, entryAt, atomic, shapeOf, term}
+use Rattle.submission.specs.Check.{checks1to5}
 use Rattle.machine.specs.declared.Instruction.{Instruction as InstructionRead}
 use Rattle.machine.specs.declared.Test.{Test as TestRead}
 use Rattle.machine.specs.declared.Node.{Node}
@@ -155,6 +155,11 @@ pub record Executable (m : Machine) (i : Instruction) : Type 0 where
   pub space : m .used < 256
 
 -- ---- a run
+-- bytes that passed checks 1 to 5
+pub record Read (s : List ℕ) : Type 0 where
+  pub bytes : Bytes s
+  pub passed : checks1to5 s ≡ passes
+
 -- the first n registers: "Registers 0 to K-1 hold the knowledge in order"
 abbrev pub knowledge : List ℕ → ℕ → List Term
 knowledge s n = listed (λ i. term s (entryAt s i)) n

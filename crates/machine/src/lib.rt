@@ -1,5 +1,7 @@
 // The machine that runs a register program over terms.
 // Promises: every function is total, for all bytes, and its answer is what the definitions of specs/ give.
+// Cost, for T terms and N instructions: terms are held shared, so an instruction adds at most one node, however large its term is as a
+// tree, after one look through at most T + 1 + N nodes.
 use submission::Stage;
 ghost use mathlib.Core.Path.{_≡_};
 ghost use mathlib.Core.Bool.{false, cond};
@@ -7,17 +9,15 @@ ghost use mathlib.Core.List.{[]};
 ghost use Prim.Native.Nat.{_+_, _≤_, _<_};
 ghost use Rattle.base.specs.First.{first, any};
 ghost use Rattle.term.specs.Term.{part, node as term, test};
-ghost use Rattle.term.specs.Reduce.{match?, paired as pairedTerm, parted as partedTerm, cancelled as cancelledTerm};
-ghost use Rattle.term.specs.Rule.{rules, headOf, hasOne};
-ghost use Rattle.term.proofs.Table.{choose};
+ghost use Rattle.term.specs.Reduce.{match?, pick, paired as pairedTerm, parted as partedTerm, cancelled as cancelledTerm};
+ghost use Rattle.term.specs.Rule.{rules, headOf};
 ghost use Rattle.submission.specs.Answer.{done, answered};
 ghost use Rattle.submission.specs.Stage.{checkOf};
 ghost use Rattle.submission.specs.Contents.{byte as byteAt};
 ghost use Rattle.submission.specs.Record.{terms as termCount, entries as entryCount, recordAt};
-ghost use Rattle.submission.proofs.Listed.{Listed, Claimed};
 ghost use Rattle.machine.specs.Program.{instructionAt, operand, testOf, badInstruction, badTest, badProgram};
 ghost use Rattle.machine.specs.Run.{executed as executedTerm, signals, runAnswer};
-ghost use Rattle.machine.specs.Code.{instructionOf, testIn, cipherOf, sideOf, answerOf, nodeFor, nodeIn, sameNode, partsOfOne, inverseNodes, isNode, foundOf, termAt, values, Sound, Executable, Fit, Has, Ready, Stored, Gives, knowledge, Loaded, Started, Running, Testable};
+ghost use Rattle.machine.specs.Code.{instructionOf, testIn, cipherOf, sideOf, answerOf, nodeFor, nodeIn, sameNode, partsOfOne, inverseNodes, isNode, foundOf, termAt, values, Sound, Executable, Fit, Has, Ready, Stored, Gives, Read, knowledge, Loaded, Started, Running, Testable};
 
 // ---- Programs, and check 13.
 
@@ -51,7 +51,7 @@ pub struct Test {
 }
 
 // Instruction i.
-fn instruction_at(program: &[u8], i: u8) -> Instruction
+pub fn instruction_at(program: &[u8], i: u8) -> Instruction
     ensures { λ r. ⌜ instructionOf r ≡ instructionAt (now (program .entry)) i ⌝ }
 {
     let at = 3 * submission::wide(i);
@@ -63,7 +63,7 @@ fn instruction_at(program: &[u8], i: u8) -> Instruction
 }
 
 // The program's last three bytes.
-fn test_of(program: &[u8]) -> Test
+pub fn test_of(program: &[u8]) -> Test
     ensures { λ r. ⌜ testIn r ≡ testOf (now (program .entry)) ⌝ }
 {
     let at = 3 * submission::wide(submission::byte(program, 0));
@@ -72,16 +72,6 @@ fn test_of(program: &[u8]) -> Test
         first: submission::byte(program, at + 2),
         second: submission::byte(program, at + 3),
     }
-}
-
-// Whether the rule has one operand.
-fn has_one(rule: u8) -> bool
-    ensures { λ r. ⌜ r ≡ hasOne rule ⌝ }
-{
-    if rule == FST {
-        return true;
-    }
-    rule == SND
 }
 
 // Whether the instruction is bad, with the first `written` registers written before it.
@@ -94,7 +84,7 @@ fn is_instruction_bad(i: Instruction, written: usize) -> bool
     if written <= submission::wide(i.first) {
         return true;
     }
-    if has_one(i.rule) {
+    if submission::has_one(i.rule) {
         return i.second != 0;
     }
     written <= submission::wide(i.second)
@@ -216,14 +206,14 @@ fn index(n: u16) -> usize
     n as usize
 }
 
-// Whether a node with this head and these parts is v.
+// Whether a node with this head and these parts is v. The left part tells most nodes apart, so it comes first.
 fn is_same(head: u8, left: u16, right: u16, v: Node) -> bool
     ensures { λ r. ⌜ r ≡ sameNode (record { head = head; left = left; right = right }) v ⌝ }
 {
-    if head != v.head {
+    if left != v.left {
         return false;
     }
-    if left != v.left {
+    if head != v.head {
         return false;
     }
     right == v.right
@@ -259,7 +249,7 @@ fn are_parts_of_one(x: Node, y: Node) -> bool
 }
 
 fn chosen(side: Side, left: u16, right: u16) -> u16
-    ensures { λ r. ⌜ r ≡ choose (sideOf side) left right ⌝ }
+    ensures { λ r. ⌜ r ≡ pick (sideOf side) left right ⌝ }
 {
     match side {
         Side::Left => left,
@@ -271,7 +261,11 @@ fn chosen(side: Side, left: u16, right: u16) -> u16
 fn operand_of(i: Instruction) -> u8
     ensures { λ r. ⌜ r ≡ operand (instructionOf i) ⌝ }
 {
-    if has_one(i.rule) { i.first } else { i.second }
+    if submission::has_one(i.rule) {
+        i.first
+    } else {
+        i.second
+    }
 }
 
 // ---- The state, and one instruction.
@@ -457,7 +451,7 @@ fn empty() -> Machine
 
 // The node of a term's record.
 fn node_of(s: &[u8], t: u8) -> Node
-    requires { ⌜ Listed (now s) ⌝ }
+    requires { ⌜ Read (now s) ⌝ }
     requires { ⌜ t < termCount (now s) ⌝ }
     ensures { λ r. ⌜ r ≡ nodeFor (recordAt (now (s .entry)) t) ⌝ }
 {
@@ -491,7 +485,7 @@ fn node_of(s: &[u8], t: u8) -> Node
 
 // The state that holds the terms, each under its own number.
 fn with_terms(s: &[u8]) -> Machine
-    requires { ⌜ Listed (now s) ⌝ }
+    requires { ⌜ Read (now s) ⌝ }
     ensures { λ r. ⌜ Loaded (now (s .entry)) [] r ⌝ }
 {
     let mut m = empty();
@@ -509,7 +503,7 @@ fn with_terms(s: &[u8]) -> Machine
 
 // The state that holds the terms, and the knowledge in the first registers.
 fn with_knowledge(s: &[u8]) -> Machine
-    requires { ⌜ Listed (now s) ⌝ }
+    requires { ⌜ Read (now s) ⌝ }
     ensures { λ r. ⌜ Loaded (now (s .entry)) (knowledge (now (s .entry)) (entryCount (now (s .entry)))) r ⌝ }
 {
     let mut m = with_terms(s);
@@ -522,7 +516,7 @@ fn with_knowledge(s: &[u8]) -> Machine
 
 // The state before the first instruction: the guess register holds the atom of the guess's kind with this name.
 fn initial(s: &[u8], name: u16) -> Machine
-    requires { ⌜ Claimed (now s) ⌝ }
+    requires { ⌜ Read (now s) ⌝ }
     ensures { λ r. ⌜ Started (now (s .entry)) name r ⌝ }
 {
     let m = with_knowledge(s);
@@ -539,7 +533,7 @@ fn initial(s: &[u8], name: u16) -> Machine
 
 // The state after all instructions.
 fn executed(s: &[u8], name: u16, program: &[u8]) -> Machine
-    requires { ⌜ Claimed (now s) ⌝ }
+    requires { ⌜ Read (now s) ⌝ }
     requires { ⌜ badProgram (now s) (now program) ≡ false ⌝ }
     ensures { λ r. ⌜ Running (now (s .entry)) name (now (program .entry)) (byteAt (now (program .entry)) 0) r ⌝ }
 {

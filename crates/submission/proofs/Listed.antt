@@ -12,8 +12,8 @@ use borrow.Author.Tests.{ltb-false}
 use Rattle.base.proofs.Order.{lt-or-ge}
 use Rattle.base.proofs.Says.{Says, says-true, says-eqb, says-ltb, says-and, says-or, not-not-false, or-false, none-fails}
 use Rattle.term.specs.Term.{Kind, plain, public, private, otherKind, symmetric, asymmetric, Head, pair, part, encrypt, decrypt, Term, atom, node, isKey, inverse, Match, Keyed, builds, Message}
-use Rattle.term.specs.Table.{branch, message}
-use Rattle.term.proofs.Table.{Below, Table, decode-inj, decoded-reads}
+use Rattle.term.specs.Table.{branch, message, Below, Table}
+use Rattle.term.proofs.Table.{decode-inj, decoded-reads}
 use Rattle.submission.specs.Answer.{passes}
 use Rattle.submission.specs.Contents.{Bytes, badCount, check1, check2}
 use Rattle.submission.specs.Record.{terms, entries, steps, kindAt, xAt, yAt, nameAt, entryAt, guess, verifying, wayAt, companion, Shape, atomic, compound, shapeOf, kindOf, takes, isAtomic, recordOf, recordAt, term, inverseKinds, areInverse}

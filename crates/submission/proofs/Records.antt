@@ -1,16 +1,20 @@
 -- Check 3, one test at a time: the shape of a record, read off its kind and its parts, and a record that is repeated.
-use mathlib.Core.Path.{_≡_, refl, sym, _∙_}
-use mathlib.Core.Bool.{Bool, true, false, _||_, _&&_, cond, true≢false, and-false}
+use mathlib.Core.Path.{_≡_, refl, sym, ap, _∙_, subst}
+use mathlib.Core.Bool.{Bool, true, false, _||_, _&&_, cond, true≢false, and-false, and-true}
 use mathlib.Core.List.{List}
 use mathlib.Core.Option.{Option, none, some}
-use Prim.Native.Nat.{ℕ, _<_, _≤_}
+use Prim.Native.Nat.{ℕ, _+_, _<_, _≤_}
+use native.Mathlib.Omega.{arith}
 use lib.Dec.{eqb, ltb}
-use borrow.Author.Tests.{ne-eqb, lt-ltb, le-ltb}
+use lib.ListN.{length, getD, set, length-set}
+use lib.Seq.{getD-set-same, getD-set-other}
+use borrow.Author.Count.{below-more}
+use borrow.Author.Tests.{eq-eqb, ne-eqb, lt-ltb, le-ltb}
 use Rattle.term.specs.Term.{plain, public, private, pair, encrypt, symmetric, asymmetric}
 use Rattle.submission.specs.declared.Term.{Term}
-use Rattle.submission.specs.Record.{kindAt, xAt, yAt, Shape, atomic, compound, shapeOf, isAtomic}
+use Rattle.submission.specs.Record.{terms, kindAt, xAt, yAt, Shape, atomic, compound, shapeOf, isAtomic}
 use Rattle.submission.specs.Check.{shapeFits, sameRecord}
-use Rattle.submission.specs.Stage.{IsTerm}
+use Rattle.submission.specs.Stage.{IsTerm, LastBytes}
 
 -- ---- kinds
 -- "an atom": kinds 1 to 3
@@ -85,6 +89,37 @@ module _ {s : List ℕ} {i : ℕ} {t u : Term} (p : IsTerm s i t) (q : IsTerm s 
   shape-enca k e = e ∙ rw (← (p .kind), k, ← (p .x), ← (p .y), lt-ltb _ _ lx, lt-ltb _ _ ly, ← (q .kind))
 
 -- ---- a repeated record
-module _ {s : List ℕ} {i j : ℕ} {t u : Term} (q : IsTerm s j u) (p : IsTerm s i t) where
-  pub same-record : {b r : Bool} → b ≡ (eqb (u .kind) (t .kind) && (eqb (u .x) (t .x) && eqb (u .y) (t .y))) → b ≡ r → sameRecord s i j ≡ r
-  same-record e h = rw (← (p .kind), ← (q .kind), ← (p .x), ← (q .x), ← (p .y), ← (q .y)) (sym e ∙ h)
+pub same-record : {s : List ℕ} {i : ℕ} {t : Term} {b r : Bool} (j : ℕ) → IsTerm s i t → b ≡ (eqb (kindAt s j) (t .kind) && (eqb (xAt s j) (t .x) && eqb (yAt s j) (t .y))) → b ≡ r → sameRecord s i j ≡ r
+same-record j p e h = rw (← (p .kind), ← (p .x), ← (p .y)) (sym e ∙ h)
+
+-- the last bytes, one more and all
+pub lasts-none : {s : List ℕ} (l : List ℕ) → length l ≡ 256 → LastBytes s 0 l
+lasts-none l e = record { within = omega arith; long = e; is = λ k b. absurd (omega arith) }
+
+pub lasts-more : {s l : List ℕ} {i w n : ℕ} {t : Term} → LastBytes s i l → i < n → n ≡ terms s → w ≡ i → IsTerm s i t → w < 256 → LastBytes s (i + 1) (set l w (t .y))
+lasts-more {s} {l} {i} {w} {n} {t} p b e f g h =
+    let q : w < length l = omega (arith, p .long) in
+    record {
+      within = omega arith;
+      long = length-set l w (t .y) ∙ p .long;
+      is = below-more (λ k. getD (set l w (t .y)) k 0 ≡ yAt s k) i
+          (λ k c. getD-set-other l w k (t .y) 0 (λ x. let y : k ≡ i = x ∙ f in omega arith) ∙ p .is k c)
+          (rw (← f) (getD-set-same l w (t .y) 0 q ∙ g .y ∙ ap (yAt s) (sym f)));
+    }
+
+pub lasts-all : {s l : List ℕ} {i n : ℕ} → LastBytes s i l → n ≤ i → n ≡ terms s → LastBytes s (terms s) l
+lasts-all {s} {l} {i} {n} p b e = let q : i ≡ terms s = omega (arith, p .within) in subst (λ k. LastBytes s k l) q p
+
+-- the bytes of record j, the last one first
+module _ {s l : List ℕ} {j w : ℕ} (p : LastBytes s (terms s) l) (b : j < terms s) (e : w ≡ j) where
+  last-is : getD l w 0 ≡ yAt s j
+  last-is = ap (λ k. getD l k 0) e ∙ p .is j b
+
+  pub last-apart : (t : Term) → (getD l w 0 ≡ t .y → ⊥) → false ≡ (eqb (kindAt s j) (t .kind) && (eqb (xAt s j) (t .x) && eqb (yAt s j) (t .y)))
+  last-apart t d = rw (← last-is, ne-eqb _ _ d, and-false, and-false)
+
+  pub last-same : {u : Term} (t : Term) → getD l w 0 ≡ t .y → IsTerm s j u → u .kind ≡ t .kind → eqb (u .x) (t .x) ≡ (eqb (kindAt s j) (t .kind) && (eqb (xAt s j) (t .x) && eqb (yAt s j) (t .y)))
+  last-same t d q k = rw (← last-is, eq-eqb _ _ d, ← (q .kind), eq-eqb _ _ k, ← (q .x), and-true)
+
+pub kind-apart : {s : List ℕ} {j : ℕ} {u : Term} (t : Term) → IsTerm s j u → (u .kind ≡ t .kind → ⊥) → false ≡ (eqb (kindAt s j) (t .kind) && (eqb (xAt s j) (t .x) && eqb (yAt s j) (t .y)))
+kind-apart t q d = rw (← (q .kind), ne-eqb _ _ d)

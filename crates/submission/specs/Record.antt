@@ -90,7 +90,8 @@ kindOf (compound (encrypt symmetric)) = 5
 kindOf (compound (encrypt asymmetric)) = 6
 kindOf (compound (decrypt c)) = 0
 
--- "5 enc(x, y), y a plain atom; 6 enca(x, y), y a key of kind 2 or 3": which kind of second operand a head takes
+-- "5 enc(x, y), y a plain atom; 6 enca(x, y), y a key of kind 2 or 3": which kind of second operand a head takes.
+-- "Any plain atom may be a symmetric key (house rule)."
 abbrev pub takes : Head → ℕ → Bool
 takes pair k = true
 takes (part i) k = false

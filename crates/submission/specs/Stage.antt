@@ -1,14 +1,15 @@
 -- What the code's records and answers mean in document 01's terms.
 use mathlib.Core.Path.{_≡_}
 use mathlib.Core.List.{List}
-use Prim.Native.Nat.{ℕ, _<_}
+use Prim.Native.Nat.{ℕ, _≤_, _<_}
+use lib.ListN.{length, getD}
 use Rattle.submission.specs.declared.Stage.{Stage}
 use Rattle.submission.specs.declared.Stage.the-variants.{Passed, Refused}
 use Rattle.submission.specs.declared.Term.{Term}
 use Rattle.submission.specs.declared.Claim.{Claim}
 use Rattle.submission.specs.Answer.{Check, passes, fails}
 use Rattle.submission.specs.Contents.{start}
-use Rattle.submission.specs.Record.{kindAt, xAt, yAt, guess, verifying, wayAt, companion}
+use Rattle.submission.specs.Record.{terms, kindAt, xAt, yAt, guess, verifying, wayAt, companion}
 
 -- what a stage says: it passed, or the number and the place of the refusal
 abbrev pub checkOf : Stage → Check
@@ -32,3 +33,9 @@ pub record IsClaim (s : List ℕ) (c : Claim) : Type 0 where
   pub step : c .step ≡ verifying s
   pub way : c .way ≡ wayAt s
   pub other : c .companion ≡ companion s
+
+-- the last bytes of the records of the first i terms
+pub record LastBytes (s : List ℕ) (i : ℕ) (l : List ℕ) : Type 0 where
+  pub within : i ≤ terms s
+  pub long : length l ≡ 256
+  pub is : (k : ℕ) → k < i → getD l k 0 ≡ yAt s k

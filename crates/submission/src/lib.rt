@@ -5,11 +5,12 @@ ghost use mathlib.Core.Bool.{_&&_, _||_};
 ghost use Prim.Native.Nat.{_<_};
 ghost use lib.Dec.{eqb};
 ghost use Rattle.base.specs.First.{any};
+ghost use Rattle.term.specs.Rule.{hasOne};
 ghost use Rattle.submission.specs.Contents.{byte as byteAt, word as wordAt, wrongLetter, wrongStart, badContents, check1, check2};
-ghost use Rattle.submission.specs.Record.{terms as termCount, entries as entryCount, steps as stepCount, kindAt, entryAt, wayAt, shapeOf, isAtomic, areInverse};
+ghost use Rattle.submission.specs.Record.{terms as termCount, entries as entryCount, steps as stepCount, kindAt, xAt, yAt, entryAt, wayAt, shapeOf, isAtomic, areInverse};
 ghost use Rattle.submission.specs.Claim.{wayOf, companionFits};
 ghost use Rattle.submission.specs.Check.{shapeFits, sameRecord, badTerm, badKnowledge, goodClaim, check3, check4, check5, checks1to4, checks1to5};
-ghost use Rattle.submission.specs.Stage.{checkOf, Starts, IsTerm, IsClaim};
+ghost use Rattle.submission.specs.Stage.{checkOf, Starts, IsTerm, IsClaim, LastBytes};
 
 // What a check answers: go on, or the refusal's number and place.
 pub enum Stage {
@@ -154,6 +155,16 @@ pub fn are_inverse(s: &[u8], i: u8, j: u8) -> bool
     false
 }
 
+// Whether a rule has one premise, and so one register.
+pub fn has_one(rule: u8) -> bool
+    ensures { λ r. ⌜ r ≡ hasOne rule ⌝ }
+{
+    if rule == 1 {
+        return true;
+    }
+    rule == 2
+}
+
 // ---- Check 1, contents.
 
 // Whether a letter of the contents is wrong.
@@ -286,26 +297,49 @@ fn shape_fits(s: &[u8], i: u8) -> bool
     }
 }
 
-fn is_same(a: Term, b: Term) -> bool
-    ensures { λ r. ⌜ r ≡ (eqb (a .kind) (b .kind) && (eqb (a .x) (b .x) && eqb (a .y) (b .y))) ⌝ }
+// The last byte of each term's record, by the term's number.
+pub struct Lasts {
+    pub bytes: [u8; 256],
+}
+
+fn last_bytes(s: &[u8]) -> Lasts
+    ensures { λ r. ⌜ LastBytes (now (s .entry)) (termCount (now (s .entry))) (r .bytes) ⌝ }
 {
-    if a.kind != b.kind {
+    let mut l = Lasts { bytes: [0u8; 256] };
+    let n = terms(s);
+    for k in 0..n {
+        let t = term_at(s, k);
+        l.bytes[wide(k)] = t.y;
+    }
+    l
+}
+
+// Whether record j is t. The last byte tells most records apart, so it comes first.
+fn is_record(s: &[u8], last: &[u8; 256], j: u8, t: Term) -> bool
+    requires { ⌜ LastBytes (now s) (termCount (now s)) (now last) ⌝ }
+    requires { ⌜ j < termCount (now s) ⌝ }
+    ensures { λ r. ⌜ r ≡ (eqb (kindAt (now (s .entry)) j) (t .kind) && (eqb (xAt (now (s .entry)) j) (t .x) && eqb (yAt (now (s .entry)) j) (t .y))) ⌝ }
+{
+    if last[wide(j)] != t.y {
         return false;
     }
-    if a.x != b.x {
+    let u = term_at(s, j);
+    if u.kind != t.kind {
         return false;
     }
-    a.y == b.y
+    u.x == t.x
 }
 
 // Whether an earlier record equals record i.
-fn is_repeated(s: &[u8], i: u8) -> bool
+fn is_repeated(s: &[u8], last: &[u8; 256], i: u8) -> bool
+    requires { ⌜ LastBytes (now s) (termCount (now s)) (now last) ⌝ }
+    requires { ⌜ i < termCount (now s) ⌝ }
     ensures { λ r. ⌜ r ≡ any (sameRecord (now (s .entry)) i) i ⌝ }
 {
     let t = term_at(s, i);
     let mut j: u8 = 0;
     while j < i {
-        if is_same(term_at(s, j), t) {
+        if is_record(s, last, j, t) {
             return true;
         }
         j += 1;
@@ -313,11 +347,13 @@ fn is_repeated(s: &[u8], i: u8) -> bool
     false
 }
 
-fn is_term_bad(s: &[u8], i: u8) -> bool
+fn is_term_bad(s: &[u8], last: &[u8; 256], i: u8) -> bool
+    requires { ⌜ LastBytes (now s) (termCount (now s)) (now last) ⌝ }
+    requires { ⌜ i < termCount (now s) ⌝ }
     ensures { λ r. ⌜ r ≡ badTerm (now (s .entry)) i ⌝ }
 {
     if shape_fits(s, i) {
-        return is_repeated(s, i);
+        return is_repeated(s, last, i);
     }
     true
 }
@@ -325,10 +361,11 @@ fn is_term_bad(s: &[u8], i: u8) -> bool
 pub fn check_terms(s: &[u8]) -> Stage
     ensures { λ r. ⌜ checkOf r ≡ check3 (now (s .entry)) ⌝ }
 {
+    let last = last_bytes(s);
     let n = terms(s);
     let mut i: u8 = 0;
     while i < n {
-        if is_term_bad(s, i) {
+        if is_term_bad(s, &last.bytes, i) {
             return Stage::Refused {
                 number: 3,
                 place: wide16(i),

@@ -10,19 +10,8 @@ use lib.ListN.{getD}
 use Rattle.base.proofs.Grow.{grow-kept, grow-at}
 use Rattle.term.specs.Term.{Kind, Side, left, right, Head, pair, part, encrypt, decrypt, Term, atom, node, Match}
 use Rattle.term.specs.Reduce.{pick, op}
-use Rattle.term.specs.Table.{Rec, leaf, branch, message, void, decoded}
+use Rattle.term.specs.Table.{Rec, leaf, branch, message, void, decoded, Below, Table}
 use Rattle.term.proofs.Reduce.{Reduces, op-reduces, op-cases}
-
--- the parts of a record are below n
-abbrev pub Below : ℕ → Rec → Type 0
-Below n (leaf κ m) = Unit {0}
-Below n (branch h x y) = (x < n) × (y < n)
-
--- the first N records of rec have the terms T
-pub record Table (rec : ℕ → Rec) (N : ℕ) (T : ℕ → Term) : Type 0 where
-  pub reads : (n : ℕ) → n < N → T n ≡ message T (rec n)
-  pub earlier : (n : ℕ) → n < N → Below n (rec n)
-  pub distinct : (m n : ℕ) → m < N → n < N → rec m ≡ rec n → m ≡ n
 
 -- ---- equal terms have equal numbers
 module _ {rec : ℕ → Rec} {N : ℕ} {T : ℕ → Term} (t : Table rec N T) where
@@ -79,10 +68,6 @@ module _ (rec : ℕ → Rec) (N : ℕ) where
       (rw (zero-add n) at (grow-at [] (λ ts n. message (λ m. getD ts m void) (rec n)) n N void b)) ∙ agree n b (rec n) (earlier n b)
 
 -- ---- the record of a term, and the machine's step over numbers
-abbrev pub choose : Side → ℕ → ℕ → ℕ
-choose left x y = x
-choose right x y = y
-
 module _ {rec : ℕ → Rec} {N : ℕ} {T : ℕ → Term} (t : Table rec N T) where
   pub branch-of : (a : ℕ) → a < N → {h : Head} {r k : Term} → T a ≡ node h r k → (x y : ℕ) × (rec a ≡ branch h x y) × (T x ≡ r) × (T y ≡ k)
   branch-of a b {h} {r} {k} e = go (rec a) refl (sym (t .reads a b) ∙ e)
@@ -104,14 +89,14 @@ module _ {rec : ℕ → Rec} {N : ℕ} {T : ℕ → Term} (t : Table rec N T) wh
   pub part-below : (a : ℕ) → a < N → {h : Head} {x y : ℕ} → rec a ≡ branch h x y → (x < N) × (y < N)
   part-below a b e = let f = subst (Below a) e (t .earlier a b) in (omega arith, omega arith)
 
-  chosen : (i : Side) (x y : ℕ) → T (choose i x y) ≡ pick i (T x) (T y)
+  chosen : (i : Side) (x y : ℕ) → T (pick i x y) ≡ pick i (T x) (T y)
   chosen left x y = refl
   chosen right x y = refl
 
 -- the reductions, read off the records: the head h over a and b is reduced to n
 abbrev pub ReducesTo : (ℕ → Rec) → (ℕ → Term) → Head → ℕ → ℕ → ℕ → Type 0
 ReducesTo rec T pair a b n = (x y m : ℕ) × (rec a ≡ branch (part left) n x) × (rec b ≡ branch (part right) m y) × (m ≡ n)
-ReducesTo rec T (part i) a b n = (x y : ℕ) × (rec a ≡ branch pair x y) × (n ≡ choose i x y)
+ReducesTo rec T (part i) a b n = (x y : ℕ) × (rec a ≡ branch pair x y) × (n ≡ pick i x y)
 ReducesTo rec T (encrypt c) a b n = (k : ℕ) × (rec a ≡ branch (decrypt c) n k) × Match c (T k) (T b)
 ReducesTo rec T (decrypt c) a b n = (k : ℕ) × (rec a ≡ branch (encrypt c) n k) × Match c (T k) (T b)
 
@@ -130,7 +115,7 @@ module _ {rec : ℕ → Rec} {N : ℕ} {T : ℕ → Term} (t : Table rec N T) wh
       (x, (x′, y′, y, e, i, decode-inj t y x (part-below t b q i .0) (part-below t a p e .0) (j ∙ sym f)), f)
   down (part i) a b r p q u =
       let (x, y, e, f, g) = branch-of t a p (u .2) in
-      (choose i x y, (x, y, e, refl), chosen t i x y ∙ ap₂ (pick i) f g ∙ sym (u .3))
+      (pick i x y, (x, y, e, refl), chosen t i x y ∙ ap₂ (pick i) f g ∙ sym (u .3))
   down (encrypt c) a b r p q u = let (x, y, e, f, g) = branch-of t a p (u .1) in (x, (y, e, subst (λ z. Match c z (T b)) (sym g) (u .2)), f)
   down (decrypt c) a b r p q u = let (x, y, e, f, g) = branch-of t a p (u .1) in (x, (y, e, subst (λ z. Match c z (T b)) (sym g) (u .2)), f)
 

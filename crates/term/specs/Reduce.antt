@@ -34,7 +34,7 @@ paired (node h x x′) (atom κ n) = node pair (node h x x′) (atom κ n)
 paired (node h x x′) (node h′ y y′) =
     ite (Dec·and (head? h (part left)) (Dec·and (head? h′ (part right)) (term? y x))) x (node pair (node h x x′) (node h′ y y′))
 
-abbrev pub pick : Side → Term → Term → Term
+abbrev pub pick : {A : Type 0} → Side → A → A → A
 pick left x y = x
 pick right x y = y
 

@@ -22,6 +22,16 @@ headOf n =
     (cond (eqb n 5) (encrypt asymmetric)
     (decrypt asymmetric))))))
 
+-- the number of a head's rule
+abbrev pub ruleOf : Head → ℕ
+ruleOf pair = 0
+ruleOf (part left) = 1
+ruleOf (part right) = 2
+ruleOf (encrypt symmetric) = 3
+ruleOf (decrypt symmetric) = 4
+ruleOf (encrypt asymmetric) = 5
+ruleOf (decrypt asymmetric) = 6
+
 -- the words pair, fst, snd, enc, dec, enca, deca, in ASCII
 unfoldable pub wordOf : ℕ → List ℕ
 wordOf n =

@@ -3,8 +3,8 @@ use mathlib.Core.Path.{_≡_}
 use mathlib.Core.Logic.{⊎-elim}
 use mathlib.Core.Bool.{Bool, true, false, cond}
 use mathlib.Core.Option.{Option, none, some}
-use mathlib.Core.List.{List, [], _∷_, _++_}
-use Prim.Native.Nat.{ℕ, zero, suc, _+_, _*_, _^_, _/_, _%_, _≤_, _<_}
+use mathlib.Core.List.{List}
+use Prim.Native.Nat.{ℕ, zero, suc, _+_, _*_, _^_, _/_, _≤_, _<_}
 use native.Mathlib.Nat.{pow-suc, le-trans}
 use native.Mathlib.Omega.{arith}
 use lib.Dec.{eqb, lit≤}
@@ -14,7 +14,7 @@ use Rattle.term.specs.Rule.{wordOf, hasOne}
 use Rattle.submission.specs.Answer.{done}
 use Rattle.submission.specs.Contents.{byte, Bytes}
 use Rattle.machine.specs.Program.{Instruction, Test, Relation, equal, inverse, relationOf, instructionAt, testOf}
-use Rattle.text.specs.Text.{digits, decimal, registerText, secondText, stepLine, stepLines, relationWord, testLine, refusedText, answerText}
+use Rattle.text.specs.Text.{digits, registerText, secondText, stepLine, stepLines, relationWord, testLine, refusedText, answerText}
 use Rattle.text.specs.Puts.{Puts}
 use Rattle.text.proofs.Puts.{puts-whole}
 use Rattle.text.proofs.Decimal.{digits-one, digits-more}

@@ -1,22 +1,19 @@
 -- The pieces of a line, one after the other in a buffer: a law for each return of the functions that write them.
-use mathlib.Core.Path.{_≡_, refl, subst}
-use mathlib.Core.Bool.{Bool, true, false, cond}
+use mathlib.Core.Path.{_≡_, subst}
+use mathlib.Core.Bool.{Bool, true, false}
 use mathlib.Core.List.{List, [], _∷_, _++_, append-assoc}
 use Prim.Native.Nat.{ℕ, _+_, _≤_}
 use native.Mathlib.Nat.{le-antisymm}
 use native.Mathlib.Numerals.{add-one}
-use lib.Dec.{eqb}
 use borrow.Author.Tests.{ne-eqb}
-use Rattle.term.specs.Term.{symmetric, asymmetric, pair, encrypt, decrypt, single}
-use Rattle.term.specs.Rule.{headOf, wordOf, hasOne}
+use Rattle.term.specs.Rule.{wordOf, hasOne}
 use Rattle.submission.specs.Answer.{done}
-use Rattle.submission.specs.Contents.{byte}
-use Rattle.machine.specs.Program.{instructionAt, testOf, relationOf}
-use Rattle.text.specs.declared.Triple.{Triple}
-use Rattle.text.specs.declared.Answered.{Answered}
-use Rattle.text.specs.declared.Answered.the-variants.{Accepted, Refused}
+use Rattle.machine.specs.Program.{Instruction, Test, instructionAt, testOf, relationOf}
+use Rattle.machine.specs.declared.Instruction.{Instruction as InstructionRead}
+use Rattle.machine.specs.declared.Test.{Test as TestRead}
+use Rattle.machine.specs.Code.{instructionOf, testIn}
 use Rattle.text.specs.Text.{decimal, space, newline, registerText, secondText, stepLine, stepLines, signalWord, acceptedWord, refusedWord, relationWord, testLine, refusedText, answerText}
-use Rattle.text.specs.Puts.{Puts, IsTriple, answerOf}
+use Rattle.text.specs.Puts.{Puts}
 use Rattle.text.proofs.Puts.{puts-none, puts-then}
 
 pub register-put : {a b c : List ℕ} {i j k : ℕ} (r : ℕ) → Puts a i (0x72 ∷ []) b j → Puts b j (decimal r) c k → Puts a i (registerText r) c k
@@ -38,40 +35,28 @@ unfolding relationOf
 no-relation-put {a} {i} {letter} e f = simp (ne-eqb letter 0x3D e, ne-eqb letter 0x69 f) puts-none
 
 -- the second register: none under fst and snd
-two-operands : (b0 b3 b4 b5 : Bool) → single (cond b0 pair (cond b3 (encrypt symmetric) (cond b4 (decrypt symmetric) (cond b5 (encrypt asymmetric) (decrypt asymmetric))))) ≡ false
-two-operands true b3 b4 b5 = refl
-two-operands false true b4 b5 = refl
-two-operands false false true b5 = refl
-two-operands false false false true = refl
-two-operands false false false false = refl
+module _ {a : List ℕ} {i : ℕ} (rule second : ℕ) where
+  pub one-put : {b : Bool} → b ≡ hasOne rule → b ≡ true → Puts a i (secondText rule second) a i
+  one-put e t = rw (← e, t) puts-none
 
-has-two : (rule : ℕ) → (rule ≡ 1 → ⊥) → (rule ≡ 2 → ⊥) → hasOne rule ≡ false
-unfolding hasOne headOf
-has-two rule e f = simp (ne-eqb rule 1 e, ne-eqb rule 2 f) (two-operands (eqb rule 0) (eqb rule 3) (eqb rule 4) (eqb rule 5))
-
-module _ {a : List ℕ} {i rule : ℕ} (second : ℕ) where
-  pub one-put : {n : ℕ} → rule ≡ n → hasOne n ≡ true → Puts a i (secondText rule second) a i
-  one-put e h = rw (e, h) puts-none
-
-  pub two-put : {b c : List ℕ} {j k w : ℕ} → (rule ≡ 1 → ⊥) → (rule ≡ 2 → ⊥) → w ≡ second → Puts a i space b j → Puts b j (registerText w) c k → Puts a i (secondText rule second) c k
-  two-put e f g p q = rw (has-two rule e f, ← g) (puts-then p q)
+  pub two-put : {b : Bool} {a′ c : List ℕ} {j k w : ℕ} → b ≡ hasOne rule → b ≡ false → w ≡ second → Puts a i space a′ j → Puts a′ j (registerText w) c k → Puts a i (secondText rule second) c k
+  two-put e t g p q = rw (← e, t, ← g) (puts-then p q)
 
 grouped : (w x y z : List ℕ) → w ++ (x ++ y ++ z) ≡ w ++ x ++ y ++ z
 grouped w x y z = simp append-assoc
 
 -- the lines of an instruction and of the test
-module _ {p0 p1 p2 p3 p4 p5 p6 p7 page : List ℕ} {a0 a1 a2 a3 a4 a5 a6 a7 i v : ℕ} {t : Triple} where
-  pub step-put : (r : ℕ) → IsTriple page i t → Puts p0 a0 (registerText r) p1 a1 → Puts p1 a1 (space ++ (0x3D ∷ []) ++ space) p2 a2 → Puts p2 a2 (wordOf (t .head)) p3 a3 → Puts p3 a3 space p4 a4 → v ≡ t .first → Puts p4 a4 (registerText v) p5 a5 → Puts p5 a5 (secondText (t .head) (t .second)) p6 a6 → Puts p6 a6 newline p7 a7 → Puts p0 a0 (stepLine r (instructionAt page i)) p7 a7
-  unfolding stepLine instructionAt
+module _ {p0 p1 p2 p3 p4 p5 p6 p7 : List ℕ} {a0 a1 a2 a3 a4 a5 a6 a7 v : ℕ} where
+  pub step-put : {t : InstructionRead} {x : Instruction} (r : ℕ) → instructionOf t ≡ x → Puts p0 a0 (registerText r) p1 a1 → Puts p1 a1 (space ++ (0x3D ∷ []) ++ space) p2 a2 → Puts p2 a2 (wordOf (t .rule)) p3 a3 → Puts p3 a3 space p4 a4 → v ≡ t .first → Puts p4 a4 (registerText v) p5 a5 → Puts p5 a5 (secondText (t .rule) (t .second)) p6 a6 → Puts p6 a6 newline p7 a7 → Puts p0 a0 (stepLine r x) p7 a7
+  unfolding stepLine
   step-put r h l0 l1 l2 l3 d l4 l5 l6 =
       let m = subst (λ (u : List ℕ). Puts p0 a0 u p2 a2) (grouped (registerText r) space (0x3D ∷ []) space) (puts-then l0 l1) in
-      rw (← (h .head), ← (h .first), ← (h .second), ← d) (puts-then (puts-then (puts-then (puts-then (puts-then m l2) l3) l4) l5) l6)
+      rw (← h, ← d) (puts-then (puts-then (puts-then (puts-then (puts-then m l2) l3) l4) l5) l6)
 
-  pub test-put : {w : ℕ} → i ≡ byte page 0 → IsTriple page i t → Puts p0 a0 (signalWord ++ space) p1 a1 → v ≡ t .first → Puts p1 a1 (registerText v) p2 a2 → Puts p2 a2 space p3 a3 → Puts p3 a3 (relationWord (relationOf (t .head))) p4 a4 → Puts p4 a4 space p5 a5 → w ≡ t .second → Puts p5 a5 (registerText w) p6 a6 → Puts p6 a6 newline p7 a7 → Puts p0 a0 (testLine (testOf page)) p7 a7
-  unfolding testLine testOf
-  test-put m h l0 d l1 l2 l3 l4 e l5 l6 =
-      rw (← m, ← (h .head), ← (h .first), ← (h .second), ← d, ← e)
-      (puts-then (puts-then (puts-then (puts-then (puts-then (puts-then l0 l1) l2) l3) l4) l5) l6)
+  pub test-put : {w : ℕ} {t : TestRead} {x : Test} → testIn t ≡ x → Puts p0 a0 (signalWord ++ space) p1 a1 → v ≡ t .first → Puts p1 a1 (registerText v) p2 a2 → Puts p2 a2 space p3 a3 → Puts p3 a3 (relationWord (relationOf (t .letter))) p4 a4 → Puts p4 a4 space p5 a5 → w ≡ t .second → Puts p5 a5 (registerText w) p6 a6 → Puts p6 a6 newline p7 a7 → Puts p0 a0 (testLine x) p7 a7
+  unfolding testLine
+  test-put h l0 d l1 l2 l3 l4 e l5 l6 =
+      rw (← h, ← d, ← e) (puts-then (puts-then (puts-then (puts-then (puts-then (puts-then l0 l1) l2) l3) l4) l5) l6)
 
 pub refused-put : {p0 p1 p2 p3 p4 p5 : List ℕ} {a0 a1 a2 a3 a4 a5 w : ℕ} (number place : ℕ) → Puts p0 a0 (refusedWord ++ space) p1 a1 → w ≡ number → Puts p1 a1 (decimal w) p2 a2 → Puts p2 a2 space p3 a3 → Puts p3 a3 (decimal place) p4 a4 → Puts p4 a4 newline p5 a5 → Puts p0 a0 (refusedText number place) p5 a5
 refused-put number place l0 e l1 l2 l3 l4 = rw (← e) (puts-then (puts-then (puts-then (puts-then l0 l1) l2) l3) l4)
@@ -91,12 +76,3 @@ steps-all r page m n l h p = rw (← (le-antisymm l h)) p
 pub accepted-put : {p0 p1 p2 p3 p4 p5 : List ℕ} {a0 a1 a2 a3 a4 a5 v w : ℕ} (known n : ℕ) (page : List ℕ) → Puts p0 a0 (acceptedWord ++ space) p1 a1 → w ≡ n → Puts p1 a1 (decimal w) p2 a2 → Puts p2 a2 newline p3 a3 → v ≡ known → Puts p3 a3 (stepLines (v + 1) page n) p4 a4 → Puts p4 a4 (testLine (testOf page)) p5 a5 → Puts p0 a0 (answerText known (done n) page) p5 a5
 unfolding answerText
 accepted-put known n page l0 d l1 l2 e l3 l4 = puts-then (puts-then (puts-then (puts-then l0 (rw d at l1)) l2) (rw e at l3)) l4
-
--- either answer
-module _ {a b : List ℕ} {i j : ℕ} {answer : Answered} (known : ℕ) (page : List ℕ) where
-  pub answer-accepted : {n : ℕ} → answer ≡ Accepted n → Puts a i (answerText known (done n) page) b j → Puts a i (answerText known (answerOf answer) page) b j
-  answer-accepted e p = rw e p
-
-  pub answer-refused : {number place : ℕ} → answer ≡ Refused number place → Puts a i (refusedText number place) b j → Puts a i (answerText known (answerOf answer) page) b j
-  unfolding answerText
-  answer-refused e p = rw e p

@@ -1,8 +1,6 @@
 // The text that the program `verdict` prints, written into a buffer that the caller lends.
 // Promises: every function is total. What it writes is the text that a definition of specs/ gives, as far as the buffer reaches,
 // no other byte changes, and the result is the place reached (`Puts`).
-use submission::byte;
-use submission::wide;
 use submission::wide16;
 ghost use mathlib.Core.Path.{_≡_};
 ghost use mathlib.Core.List.{[], _∷_};
@@ -11,13 +9,7 @@ ghost use Rattle.term.specs.Rule.{wordOf};
 ghost use Rattle.submission.specs.Answer.{done};
 ghost use Rattle.machine.specs.Program.{instructionAt, testOf, relationOf};
 ghost use Rattle.text.specs.Text.{decimal, registerText, secondText, stepLine, stepLines, relationWord, testLine, answerText, refusedText};
-ghost use Rattle.text.specs.Puts.{Puts, IsTriple, answerOf};
-
-// An answer to print.
-pub enum Answered {
-    Accepted(u8),
-    Refused { number: u8, place: u16 },
-}
+ghost use Rattle.text.specs.Puts.{Puts};
 
 // One byte; none where the buffer is full.
 fn put(out: &mut [u8], at: usize, b: u8) -> usize
@@ -85,45 +77,24 @@ fn put_rule(out: &mut [u8], at: usize, rule: u8) -> usize
 fn put_second(out: &mut [u8], at: usize, rule: u8, second: u8) -> usize
     ensures { λ r. ⌜ Puts (now (out .entry)) at (secondText rule second) (now (out .exit)) r ⌝ }
 {
-    if rule == 1 {
-        return at;
-    }
-    if rule == 2 {
+    if submission::has_one(rule) {
         return at;
     }
     let next = put(out, at, b' ');
     put_register(out, next, wide16(second))
 }
 
-// Three bytes of a program: an instruction, or its test.
-struct Triple {
-    head: u8,
-    first: u8,
-    second: u8,
-}
-
-fn triple_at(page: &[u8], i: u8) -> Triple
-    ensures { λ r. ⌜ IsTriple (now (page .entry)) i r ⌝ }
-{
-    let at = 3 * wide(i);
-    Triple {
-        head: byte(page, at + 1),
-        first: byte(page, at + 2),
-        second: byte(page, at + 3),
-    }
-}
-
 // The line of instruction i on a page, whose result goes to register r.
 fn put_step(out: &mut [u8], from: usize, r: u16, page: &[u8], i: u8) -> usize
     ensures { λ e. ⌜ Puts (now (out .entry)) from (stepLine r (instructionAt (now (page .entry)) i)) (now (out .exit)) e ⌝ }
 {
-    let t = triple_at(page, i);
+    let read = machine::instruction_at(page, i);
     let at = put_register(out, from, r);
     let at = put_word(out, at, b" = ");
-    let at = put_rule(out, at, t.head);
+    let at = put_rule(out, at, read.rule);
     let at = put(out, at, b' ');
-    let at = put_register(out, at, wide16(t.first));
-    let at = put_second(out, at, t.head, t.second);
+    let at = put_register(out, at, wide16(read.first));
+    let at = put_second(out, at, read.rule, read.second);
     put(out, at, b'\n')
 }
 
@@ -154,11 +125,11 @@ fn put_relation(out: &mut [u8], at: usize, letter: u8) -> usize
 fn put_test(out: &mut [u8], from: usize, page: &[u8]) -> usize
     ensures { λ r. ⌜ Puts (now (out .entry)) from (testLine (testOf (now (page .entry)))) (now (out .exit)) r ⌝ }
 {
-    let t = triple_at(page, byte(page, 0));
+    let t = machine::test_of(page);
     let at = put_word(out, from, b"signal ");
     let at = put_register(out, at, wide16(t.first));
     let at = put(out, at, b' ');
-    let at = put_relation(out, at, t.head);
+    let at = put_relation(out, at, t.letter);
     let at = put(out, at, b' ');
     let at = put_register(out, at, wide16(t.second));
     put(out, at, b'\n')
@@ -184,13 +155,4 @@ pub fn write_refused(out: &mut [u8], number: u8, place: u16) -> usize
     let at = put(out, at, b' ');
     let at = put_number(out, at, place);
     put(out, at, b'\n')
-}
-
-pub fn write_answer(out: &mut [u8], known: u8, answer: Answered, page: &[u8]) -> usize
-    ensures { λ r. ⌜ Puts (now (out .entry)) 0 (answerText known (answerOf answer) (now (page .entry))) (now (out .exit)) r ⌝ }
-{
-    match answer {
-        Answered::Accepted(n) => write_accepted(out, known, n, page),
-        Answered::Refused { number, place } => write_refused(out, number, place),
-    }
 }

@@ -20,7 +20,6 @@ build-at t = and 2 build-kinds.ps (is 2 build-kinds.ps μ-build t) build.Pre
 abbrev build-below : ℕ → In 2 build-kinds.ps
 build-below t = and 2 build-kinds.ps (falls 2 build-kinds.ps _<_ μ-build t) build.Pre
 
--- src/lib.rt:73:9
 build-wide-requires : (t : ℕ) → build-lts.Need-wide-requires (
   wide-reads.Asked,
   wide-reads.Learnt,
@@ -31,7 +30,6 @@ build-wide-requires : (t : ℕ) → build-lts.Need-wide-requires (
 ) (build-at t) build.Post
 build-wide-requires t c κs = search needs
 
--- src/lib.rt:74:16
 build-element-copy-out-mark : (t : ℕ) → build-lts.Need-element-copy-out-mark (
   wide-reads.Asked,
   wide-reads.Learnt,
@@ -42,7 +40,6 @@ build-element-copy-out-mark : (t : ℕ) → build-lts.Need-element-copy-out-mark
 ) (build-at t) build.Post
 build-element-copy-out-mark t c = search needs
 
--- src/lib.rt:76:9
 build-returns : (t : ℕ) → build-lts.Need-returns (
   wide-reads.Asked,
   wide-reads.Learnt,
@@ -53,7 +50,6 @@ build-returns : (t : ℕ) → build-lts.Need-returns (
 ) (build-at t) build.Post
 build-returns t c = search (decided-before, now-known, now-atom, now-left, now-both, needs)
 
--- src/lib.rt:78:8
 build-element-copy-out-if2 : (t : ℕ) → build-lts.Need-element-copy-out-if2 (
   wide-reads.Asked,
   wide-reads.Learnt,
@@ -64,7 +60,6 @@ build-element-copy-out-if2 : (t : ℕ) → build-lts.Need-element-copy-out-if2 (
 ) (build-at t) build.Post
 build-element-copy-out-if2 t c = search needs
 
--- src/lib.rt:79:9
 build-element-write-out : (t : ℕ) → build-lts.Need-element-write-out (
   wide-reads.Asked,
   wide-reads.Learnt,
@@ -75,7 +70,6 @@ build-element-write-out : (t : ℕ) → build-lts.Need-element-write-out (
 ) (build-at t) build.Post
 build-element-write-out t c = search needs
 
--- src/lib.rt:80:9
 build-returns-2 : (t : ℕ) → build-lts.Need-returns-2 (
   wide-reads.Asked,
   wide-reads.Learnt,
@@ -86,7 +80,6 @@ build-returns-2 : (t : ℕ) → build-lts.Need-returns-2 (
 ) (build-at t) build.Post
 build-returns-2 t c = search (decided-before, now-known, now-atom, now-left, now-both, needs)
 
--- src/lib.rt:82:9
 build-term-at-requires : (t : ℕ) → build-lts.Need-term-at-requires (
   wide-reads.Asked,
   wide-reads.Learnt,
@@ -97,7 +90,6 @@ build-term-at-requires : (t : ℕ) → build-lts.Need-term-at-requires (
 ) (build-at t) build.Post
 build-term-at-requires t c κs = search needs
 
--- src/lib.rt:84:9
 build-element-write-out-2 : (t : ℕ) → build-lts.Need-element-write-out-2 (
   wide-reads.Asked,
   wide-reads.Learnt,
@@ -108,7 +100,6 @@ build-element-write-out-2 : (t : ℕ) → build-lts.Need-element-write-out-2 (
 ) (build-at t) build.Post
 build-element-write-out-2 t c = search needs
 
--- src/lib.rt:85:9
 build-returns-3 : (t : ℕ) → build-lts.Need-returns-3 (
   wide-reads.Asked,
   wide-reads.Learnt,
@@ -119,7 +110,6 @@ build-returns-3 : (t : ℕ) → build-lts.Need-returns-3 (
 ) (build-at t) build.Post
 build-returns-3 t c = search (decided-before, now-known, now-atom, now-left, now-both, needs)
 
--- src/lib.rt:87:20
 build-build-requires : (t : ℕ) → build-lts.Need-build-requires (
   wide-reads.Asked,
   wide-reads.Learnt,
@@ -130,7 +120,6 @@ build-build-requires : (t : ℕ) → build-lts.Need-build-requires (
 ) (build-at t) build.Post
 build-build-requires t c κs = search (x-falls, x-term, needs)
 
--- src/lib.rt:88:28
 build-wide-requires-2 : (t : ℕ) → build-lts.Need-wide-requires-2 (
   wide-reads.Asked,
   wide-reads.Learnt,
@@ -141,7 +130,6 @@ build-wide-requires-2 : (t : ℕ) → build-lts.Need-wide-requires-2 (
 ) (build-at t) build.Post
 build-wide-requires-2 t c κs = search needs
 
--- src/lib.rt:88:17
 build-element-copy-out-first : (t : ℕ) → build-lts.Need-element-copy-out-first (
   wide-reads.Asked,
   wide-reads.Learnt,
@@ -152,7 +140,6 @@ build-element-copy-out-first : (t : ℕ) → build-lts.Need-element-copy-out-fir
 ) (build-at t) build.Post
 build-element-copy-out-first t c = search needs
 
--- src/lib.rt:90:9
 build-element-write-left : (t : ℕ) → build-lts.Need-element-write-left (
   wide-reads.Asked,
   wide-reads.Learnt,
@@ -163,7 +150,6 @@ build-element-write-left : (t : ℕ) → build-lts.Need-element-write-left (
 ) (build-at t) build.Post
 build-element-write-left t c = search needs
 
--- src/lib.rt:91:9
 build-returns-4 : (t : ℕ) → build-lts.Need-returns-4 (
   wide-reads.Asked,
   wide-reads.Learnt,
@@ -174,7 +160,6 @@ build-returns-4 : (t : ℕ) → build-lts.Need-returns-4 (
 ) (build-at t) build.Post
 build-returns-4 t c = search (decided-before, now-known, now-atom, now-left, now-both, needs)
 
--- src/lib.rt:93:20
 build-build-requires-2 : (t : ℕ) → build-lts.Need-build-requires-2 (
   wide-reads.Asked,
   wide-reads.Learnt,
@@ -185,7 +170,6 @@ build-build-requires-2 : (t : ℕ) → build-lts.Need-build-requires-2 (
 ) (build-at t) build.Post
 build-build-requires-2 t c κs = search (y-falls, y-term, needs)
 
--- src/lib.rt:94:29
 build-wide-requires-3 : (t : ℕ) → build-lts.Need-wide-requires-3 (
   wide-reads.Asked,
   wide-reads.Learnt,
@@ -196,7 +180,6 @@ build-wide-requires-3 : (t : ℕ) → build-lts.Need-wide-requires-3 (
 ) (build-at t) build.Post
 build-wide-requires-3 t c κs = search needs
 
--- src/lib.rt:94:18
 build-element-copy-out-second : (t : ℕ) → build-lts.Need-element-copy-out-second (
   wide-reads.Asked,
   wide-reads.Learnt,
@@ -207,7 +190,6 @@ build-element-copy-out-second : (t : ℕ) → build-lts.Need-element-copy-out-se
 ) (build-at t) build.Post
 build-element-copy-out-second t c = search needs
 
--- src/lib.rt:95:5
 build-element-write-both : (t : ℕ) → build-lts.Need-element-write-both (
   wide-reads.Asked,
   wide-reads.Learnt,
@@ -218,7 +200,6 @@ build-element-write-both : (t : ℕ) → build-lts.Need-element-write-both (
 ) (build-at t) build.Post
 build-element-write-both t c = search needs
 
--- src/lib.rt:66:1
 build-returns-5 : (t : ℕ) → build-lts.Need-returns-5 (
   wide-reads.Asked,
   wide-reads.Learnt,

@@ -2,22 +2,16 @@ use Rattle.deduction.proofs.Answering.{refusal}
 use borrow.Author.Needs.{needs}
 use Rattle.deduction.proofs.refused.Statement.{statement}
 use Rattle.deduction.proofs.refused.Tie as tie
-use Rattle.deduction.proofs.refused.Reads as reads
-use Rattle.deduction.proofs.refused.Lts as lts
 
--- src/lib.rt:247:26
 enum-told : tie.Need-enum-told
 enum-told c = search needs
 
--- src/lib.rt:248:26
 enum-known-stage : tie.Need-enum-known-stage
 enum-known-stage c = search needs
 
--- src/lib.rt:243:1
 returns : tie.Need-returns
 returns c = search needs
 
--- src/lib.rt:243:1
 returns-2 : tie.Need-returns-2
 returns-2 c = search (refusal, needs)
 

@@ -3,11 +3,6 @@ use Rattle.deduction.specs.Code.{Sound, unmarked}
 use Rattle.deduction.proofs.Sweeping.{entered-sound, swept-exact, swept-fewer}
 use Rattle.deduction.proofs.saturated.Statement.{statement}
 use Rattle.deduction.proofs.saturated.Tie as tie
-use Rattle.deduction.proofs.saturated.Reads as reads
-use Rattle.deduction.proofs.saturated.Lts as lts
-use Rattle.deduction.proofs.entry_marks.Reads as entry-marks-reads
-use Rattle.deduction.proofs.inverses.Reads as inverses-reads
-use Rattle.deduction.proofs.sweep.Reads as sweep-reads
 
 abbrev Inv-loop : tie.InvT-loop
 Inv-loop s inverse m₀ m = Sound s (m .state)
@@ -15,31 +10,24 @@ Inv-loop s inverse m₀ m = Sound s (m .state)
 abbrev μ-loop : tie.MeasureT-loop
 μ-loop s inverse m₀ m = unmarked (m .state)
 
--- src/lib.rt:199:19
 inverses-requires : tie.Need-inverses-requires Inv-loop μ-loop
 inverses-requires c κs = search (entered-sound, swept-exact, needs)
 
--- src/lib.rt:200:9
 entry-marks-requires : tie.Need-entry-marks-requires Inv-loop μ-loop
 entry-marks-requires c κs = search (entered-sound, swept-exact, needs)
 
--- src/lib.rt:201:5
 loop-holds : tie.Need-loop-holds Inv-loop μ-loop
 loop-holds c = search (entered-sound, swept-exact, needs)
 
--- src/lib.rt:202:13
 sweep-requires : tie.Need-sweep-requires Inv-loop μ-loop
 sweep-requires c κs = search (entered-sound, swept-exact, needs)
 
--- src/lib.rt:204:13
 returns : tie.Need-returns Inv-loop μ-loop
 returns c = search (swept-exact, needs)
 
--- src/lib.rt:201:5
 loop-less : tie.Need-loop-less Inv-loop μ-loop
 loop-less c = search (swept-fewer, needs)
 
--- src/lib.rt:201:5
 loop-again : tie.Need-loop-again Inv-loop μ-loop
 loop-again c = search (entered-sound, swept-exact, needs)
 

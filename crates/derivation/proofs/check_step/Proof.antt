@@ -3,7 +3,6 @@ use Rattle.derivation.proofs.Steps.{step-6, step-7, step-right}
 use borrow.Author.Needs.{needs}
 use Rattle.derivation.proofs.check_step.Statement.{statement}
 use Rattle.derivation.proofs.check_step.Tie as tie
-use Rattle.submission.proofs.wide16.Reads as wide16-reads
 
 is-step-bad-requires : tie.Need-is-step-bad-requires
 is-step-bad-requires c κs = search needs

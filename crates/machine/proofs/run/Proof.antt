@@ -31,7 +31,7 @@ executed-requires : tie.Need-executed-requires
 executed-requires c κs = (search (read, bytes), search flag)
 
 signal-requires : tie.Need-signal-requires
-signal-requires c κs = search (test-ready, read, bytes, flag)
+signal-requires c κs = search (test-ready, flag)
 
 returns-3 : tie.Need-returns-3
 returns-3 c = search (run-signals, needs)

@@ -3,18 +3,13 @@ use lib.ListN.{List·getD-eq-default}
 use borrow.Author.Needs.{needs}
 use Rattle.submission.proofs.byte.Statement.{statement}
 use Rattle.submission.proofs.byte.Tie as tie
-use Rattle.submission.proofs.byte.Reads as reads
-use Rattle.submission.proofs.byte.Lts as lts
 
--- src/lib.rt:37:22
 shared-slice-read-result : tie.Need-shared-slice-read-result
 shared-slice-read-result c = search needs
 
--- src/lib.rt:34:1
 returns : tie.Need-returns
 returns c = search needs
 
--- src/lib.rt:34:1
 returns-2 : tie.Need-returns-2
 returns-2 c = sym (List·getD-eq-default (c .before .args .s .now) 0 (c .if1 .left))
 

@@ -8,10 +8,13 @@ use Rattle.submission.proofs.check_terms.Statement.{statement}
 use Rattle.submission.proofs.check_terms.Tie as tie
 
 abbrev Inv-loop : tie.InvT-loop
-Inv-loop s n i₀ i = Passed (badTerm s) n i
+Inv-loop s last n i₀ i = Passed (badTerm s) n i
 
 abbrev μ-loop : tie.MeasureT-loop
-μ-loop s n i₀ i = n - i
+μ-loop s last n i₀ i = n - i
+
+last-bytes-requires : tie.Need-last-bytes-requires Inv-loop μ-loop
+last-bytes-requires c κs = search scan
 
 terms-requires : tie.Need-terms-requires Inv-loop μ-loop
 terms-requires c κs = search scan
@@ -46,6 +49,7 @@ check-terms-spec =
     (tie.spec
     Inv-loop
     μ-loop
+    last-bytes-requires
     terms-requires
     loop-holds
     is-term-bad-requires

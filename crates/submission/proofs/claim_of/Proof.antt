@@ -1,44 +1,31 @@
 use borrow.Author.Needs.{needs}
 use Rattle.submission.proofs.claim_of.Statement.{statement}
 use Rattle.submission.proofs.claim_of.Tie as tie
-use Rattle.submission.proofs.claim_of.Reads as reads
-use Rattle.submission.proofs.claim_of.Lts as lts
-use Rattle.submission.proofs.byte.Reads as byte-reads
-use Rattle.submission.proofs.claim_start.Reads as claim-start-reads
 
--- src/lib.rt:120:9
 claim-start-requires : tie.Need-claim-start-requires
 claim-start-requires c κs = search needs
 
--- src/lib.rt:122:16
 byte-requires : tie.Need-byte-requires
 byte-requires c κs = search needs
 
--- src/lib.rt:123:23
 add-byte : tie.Need-add-byte
 add-byte c = search needs
 
--- src/lib.rt:123:15
 byte-requires-2 : tie.Need-byte-requires-2
 byte-requires-2 c κs = search needs
 
--- src/lib.rt:124:22
 add-byte-2 : tie.Need-add-byte-2
 add-byte-2 c = search needs
 
--- src/lib.rt:124:14
 byte-requires-3 : tie.Need-byte-requires-3
 byte-requires-3 c κs = search needs
 
--- src/lib.rt:125:28
 add-byte-3 : tie.Need-add-byte-3
 add-byte-3 c = search needs
 
--- src/lib.rt:125:20
 byte-requires-4 : tie.Need-byte-requires-4
 byte-requires-4 c κs = search needs
 
--- src/lib.rt:117:1
 returns : tie.Need-returns
 returns c = record { guessed = cc; step = cc; way = cc; other = cc }
 

@@ -2,40 +2,28 @@ use Rattle.submission.specs.Contents.{start}
 use borrow.Author.Needs.{needs}
 use Rattle.submission.proofs.derivation_start.Statement.{statement}
 use Rattle.submission.proofs.derivation_start.Tie as tie
-use Rattle.submission.proofs.derivation_start.Reads as reads
-use Rattle.submission.proofs.derivation_start.Lts as lts
-use Rattle.submission.proofs.byte.Reads as byte-reads
-use Rattle.submission.proofs.wide.Reads as wide-reads
 
--- src/lib.rt:75:19
 byte-requires : tie.Need-byte-requires
 byte-requires c κs = search needs
 
--- src/lib.rt:75:14
 wide-requires : tie.Need-wide-requires
 wide-requires c κs = search needs
 
--- src/lib.rt:75:10
 mul-result : tie.Need-mul-result
 mul-result c = search needs
 
--- src/lib.rt:75:5
 add-result : tie.Need-add-result
 add-result c = search needs
 
--- src/lib.rt:75:38
 byte-requires-2 : tie.Need-byte-requires-2
 byte-requires-2 c κs = search needs
 
--- src/lib.rt:75:33
 wide-requires-2 : tie.Need-wide-requires-2
 wide-requires-2 c κs = search needs
 
--- src/lib.rt:75:5
 add-result-2 : tie.Need-add-result-2
 add-result-2 c = search needs
 
--- src/lib.rt:72:1
 returns : tie.Need-returns
 unfolding start
 returns c = search needs

@@ -8,10 +8,10 @@ use Rattle.submission.proofs.is_repeated.Statement.{statement}
 use Rattle.submission.proofs.is_repeated.Tie as tie
 
 abbrev Inv-loop : tie.InvT-loop
-Inv-loop s i t j₀ j = Passed (sameRecord s i) i j
+Inv-loop s last i t j₀ j = Passed (sameRecord s i) i j
 
 abbrev μ-loop : tie.MeasureT-loop
-μ-loop s i t j₀ j = i - j
+μ-loop s last i t j₀ j = i - j
 
 term-at-requires : tie.Need-term-at-requires Inv-loop μ-loop
 term-at-requires c κs = search scan
@@ -19,11 +19,8 @@ term-at-requires c κs = search scan
 loop-holds : tie.Need-loop-holds Inv-loop μ-loop
 loop-holds c = search scan
 
-term-at-requires-2 : tie.Need-term-at-requires-2 Inv-loop μ-loop
-term-at-requires-2 c κs = search scan
-
-is-same-requires : tie.Need-is-same-requires Inv-loop μ-loop
-is-same-requires c κs = search scan
+is-record-requires : tie.Need-is-record-requires Inv-loop μ-loop
+is-record-requires c κs = search scan
 
 returns : tie.Need-returns Inv-loop μ-loop
 returns c = search (same-record, scan)
@@ -48,8 +45,7 @@ is-repeated-spec =
     μ-loop
     term-at-requires
     loop-holds
-    term-at-requires-2
-    is-same-requires
+    is-record-requires
     returns
     add-j
     loop-less

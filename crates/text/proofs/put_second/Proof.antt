@@ -1,17 +1,14 @@
 -- Nothing under fst and snd, else a space and the register.
 use Rattle.text.proofs.Line.{one-put, two-put}
-use Rattle.term.specs.Rule.{headOf, hasOne}
 use borrow.Author.Needs.{needs}
 use Rattle.text.proofs.put_second.Statement.{statement}
 use Rattle.text.proofs.put_second.Tie as tie
 
-returns : tie.Need-returns
-unfolding hasOne headOf
-returns c = search (one-put, needs)
+has-one-requires : tie.Need-has-one-requires
+has-one-requires c κs = search needs
 
-returns-2 : tie.Need-returns-2
-unfolding hasOne headOf
-returns-2 c = search (one-put, needs)
+returns : tie.Need-returns
+returns c = search (one-put, needs)
 
 put-requires : tie.Need-put-requires
 put-requires c κs = search needs
@@ -25,17 +22,17 @@ put-register-requires c κs = search needs
 same-length : tie.Need-same-length
 same-length c = search needs
 
-returns-3 : tie.Need-returns-3
-returns-3 c = search (two-put, needs)
+returns-2 : tie.Need-returns-2
+returns-2 c = search (two-put, needs)
 
 pub put-second-spec : {M : Type 1} → statement M
 put-second-spec =
     tie.close
     (tie.spec
+    has-one-requires
     returns
-    returns-2
     put-requires
     wide16-requires
     put-register-requires
     same-length
-    returns-3)
+    returns-2)

@@ -4,8 +4,8 @@ use borrow.Author.Needs.{needs}
 use Rattle.text.proofs.put_step.Statement.{statement}
 use Rattle.text.proofs.put_step.Tie as tie
 
-triple-at-requires : tie.Need-triple-at-requires
-triple-at-requires c κs = search needs
+instruction-at-requires : tie.Need-instruction-at-requires
+instruction-at-requires c κs = search needs
 
 put-register-requires : tie.Need-put-register-requires
 put-register-requires c κs = search needs
@@ -47,13 +47,13 @@ returns c =
     let equals = ruled .before .before .before .before in
     let target = equals .before .before .before .before .before in
     let read = target .before .before in
-    step-put _ (read .triple-at .ensures) (target .put-register .ensures) (equals .put-word .ensures) (ruled .put-rule .ensures) (spaced .put .ensures) (first .before .wide16 .ensures) (first .put-register2 .ensures) (second .put-second .ensures) (ended .put2 .ensures)
+    step-put _ (read .instruction-at .ensures) (target .put-register .ensures) (equals .put-word .ensures) (ruled .put-rule .ensures) (spaced .put .ensures) (first .before .wide16 .ensures) (first .put-register2 .ensures) (second .put-second .ensures) (ended .put2 .ensures)
 
 pub put-step-spec : {M : Type 1} → statement M
 put-step-spec =
     tie.close
     (tie.spec
-    triple-at-requires
+    instruction-at-requires
     put-register-requires
     slice-aggregate-put-word
     put-word-requires

@@ -4,11 +4,8 @@ use borrow.Author.Needs.{needs}
 use Rattle.text.proofs.put_test.Statement.{statement}
 use Rattle.text.proofs.put_test.Tie as tie
 
-byte-requires : tie.Need-byte-requires
-byte-requires c κs = search needs
-
-triple-at-requires : tie.Need-triple-at-requires
-triple-at-requires c κs = search needs
+test-of-requires : tie.Need-test-of-requires
+test-of-requires c κs = search needs
 
 slice-aggregate-put-word : tie.Need-slice-aggregate-put-word
 slice-aggregate-put-word c = search needs
@@ -53,14 +50,13 @@ returns c =
     let first = space1 .before .before .before .before in
     let signal = first .before .before .before .before .before in
     let read = signal .before .before .before in
-    test-put (read .before .byte .ensures) (read .triple-at .ensures) (signal .put-word .ensures) (first .before .wide16 .ensures) (first .put-register .ensures) (space1 .put .ensures) (related .put-relation .ensures) (space2 .put2 .ensures) (second .before .wide162 .ensures) (second .put-register2 .ensures) (ended .put3 .ensures)
+    test-put (read .test-of .ensures) (signal .put-word .ensures) (first .before .wide16 .ensures) (first .put-register .ensures) (space1 .put .ensures) (related .put-relation .ensures) (space2 .put2 .ensures) (second .before .wide162 .ensures) (second .put-register2 .ensures) (ended .put3 .ensures)
 
 pub put-test-spec : {M : Type 1} → statement M
 put-test-spec =
     tie.close
     (tie.spec
-    byte-requires
-    triple-at-requires
+    test-of-requires
     slice-aggregate-put-word
     put-word-requires
     wide16-requires

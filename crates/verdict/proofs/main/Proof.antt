@@ -2,54 +2,37 @@ use Rattle.text.proofs.Puts.{puts-taken}
 use borrow.Author.Needs.{needs}
 use Rattle.verdict.proofs.main.Statement.{statement}
 use Rattle.verdict.proofs.main.Tie as tie
-use Rattle.verdict.proofs.main.Reads as reads
-use Rattle.verdict.proofs.main.Lts as lts
-use Rattle.checker.proofs.write_verdict.Reads as write-verdict-reads
-use Rattle.io.proofs.buffer.Reads as buffer-reads
-use Rattle.io.proofs.read_full.Reads as read-full-reads
-use Rattle.io.proofs.write_all.Reads as write-all-reads
 
--- src/main.rt:8:21
 buffer-requires : tie.Need-buffer-requires
 buffer-requires c κs = search needs
 
--- src/main.rt:9:46
 slice-aggregate-read-full : tie.Need-slice-aggregate-read-full
 slice-aggregate-read-full c = search needs
 
--- src/main.rt:9:9
 read-full-requires : tie.Need-read-full-requires
 read-full-requires c κs = search needs
 
--- src/main.rt:11:42
 array-share-prefix-input : tie.Need-array-share-prefix-input
 array-share-prefix-input c = search needs
 
--- src/main.rt:11:42
 slice-aggregate-write-verdict : tie.Need-slice-aggregate-write-verdict
 slice-aggregate-write-verdict c = search needs
 
--- src/main.rt:11:60
 slice-aggregate-write-verdict-2 : tie.Need-slice-aggregate-write-verdict-2
 slice-aggregate-write-verdict-2 c = search needs
 
--- src/main.rt:11:9
 write-verdict-requires : tie.Need-write-verdict-requires
 write-verdict-requires c κs = search needs
 
--- src/main.rt:12:34
 array-share-prefix-text : tie.Need-array-share-prefix-text
 array-share-prefix-text c = search needs
 
--- src/main.rt:12:34
 slice-aggregate-write-all : tie.Need-slice-aggregate-write-all
 slice-aggregate-write-all c = search (puts-taken, needs)
 
--- src/main.rt:12:5
 write-all-requires : tie.Need-write-all-requires
 write-all-requires c κs = search needs
 
--- src/main.rt:6:1
 returns : tie.Need-returns
 returns c = search needs
 

@@ -1,5 +1,7 @@
 -- `checker::conditions::check_reachable` meets its contract: the place is the verifying step.
-use Rattle.checker.proofs.Standing.{founded}
+use Rattle.base.proofs.Scan.{scan}
+use Rattle.submission.proofs.Stages.{passes-if}
+use Rattle.checker.proofs.Standing.{fails-at-step}
 use borrow.Author.Needs.{needs}
 use Rattle.checker.proofs.conditions.check_reachable.Statement.{statement}
 use Rattle.checker.proofs.conditions.check_reachable.Tie as tie
@@ -14,10 +16,10 @@ wide16-requires : tie.Need-wide16-requires
 wide16-requires c κs = search needs
 
 returns : tie.Need-returns
-returns c = search founded
+returns c = search (fails-at-step, scan)
 
 returns-2 : tie.Need-returns-2
-returns-2 c = search founded
+returns-2 c = search (passes-if, scan)
 
 pub check-reachable-spec : {M : Type 1} → statement M
 check-reachable-spec =

@@ -1,5 +1,7 @@
 -- `checker::conditions::check_second_way` meets its contract: the place is the verifying step.
-use Rattle.checker.proofs.SecondWay.{way-passes, way-fails}
+use Rattle.base.proofs.Scan.{scan}
+use Rattle.submission.proofs.Stages.{passes-if}
+use Rattle.checker.proofs.Standing.{fails-at-step}
 use borrow.Author.Needs.{needs}
 use Rattle.checker.proofs.conditions.check_second_way.Statement.{statement}
 use Rattle.checker.proofs.conditions.check_second_way.Tie as tie
@@ -11,13 +13,13 @@ has-second-way-requires : tie.Need-has-second-way-requires
 has-second-way-requires c κs = search needs
 
 returns : tie.Need-returns
-returns c = search way-passes
+returns c = search (passes-if, scan)
 
 wide16-requires : tie.Need-wide16-requires
 wide16-requires c κs = search needs
 
 returns-2 : tie.Need-returns-2
-returns-2 c = search way-fails
+returns-2 c = search (fails-at-step, scan)
 
 pub check-second-way-spec : {M : Type 1} → statement M
 check-second-way-spec =

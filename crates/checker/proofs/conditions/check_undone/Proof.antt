@@ -14,31 +14,31 @@ abbrev μ-loop : tie.MeasureT-loop
 μ-loop s n i₀ i = n - i
 
 steps-requires : tie.Need-steps-requires Inv-loop μ-loop
-steps-requires c κs = search (fails-hit, passes-all, scan)
+steps-requires c κs = search scan
 
 loop-holds : tie.Need-loop-holds Inv-loop μ-loop
-loop-holds c = search (fails-hit, passes-all, scan)
+loop-holds c = search scan
 
 is-undone-requires : tie.Need-is-undone-requires Inv-loop μ-loop
-is-undone-requires c κs = search (fails-hit, passes-all, scan)
+is-undone-requires c κs = search scan
 
 wide16-requires : tie.Need-wide16-requires Inv-loop μ-loop
-wide16-requires c κs = search (fails-hit, passes-all, scan)
+wide16-requires c κs = search scan
 
 returns : tie.Need-returns Inv-loop μ-loop
-returns c = search (fails-hit, passes-all, scan)
+returns c = search (fails-hit, scan)
 
 add-i : tie.Need-add-i Inv-loop μ-loop
-add-i c = search (fails-hit, passes-all, scan)
+add-i c = search scan
 
 loop-less : tie.Need-loop-less Inv-loop μ-loop
-loop-less c = search (fails-hit, passes-all, scan)
+loop-less c = search scan
 
 loop-again : tie.Need-loop-again Inv-loop μ-loop
-loop-again c = search (fails-hit, passes-all, scan)
+loop-again c = search scan
 
 returns-2 : tie.Need-returns-2 Inv-loop μ-loop
-returns-2 c = search (fails-hit, passes-all, scan)
+returns-2 c = search (passes-all, scan)
 
 pub check-undone-spec : {M : Type 1} → statement M
 check-undone-spec =

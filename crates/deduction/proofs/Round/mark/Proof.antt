@@ -3,28 +3,20 @@ use Rattle.deduction.specs.Code.{withMark}
 use borrow.Author.Needs.{needs}
 use Rattle.deduction.proofs.Round.mark.Statement.{statement}
 use Rattle.deduction.proofs.Round.mark.Tie as tie
-use Rattle.deduction.proofs.Round.mark.Reads as reads
-use Rattle.deduction.proofs.Round.mark.Lts as lts
-use Rattle.submission.proofs.wide.Reads as wide-reads
 
--- src/lib.rt:110:13
 wide-requires : tie.Need-wide-requires
 wide-requires c κs = search needs
 
--- src/lib.rt:111:12
 element-copy-out-if1 : tie.Need-element-copy-out-if1
 element-copy-out-if1 c = search needs
 
--- src/lib.rt:112:13
 returns : tie.Need-returns
 unfolding withMark
 returns c = rw (← (c .before .before .wide .ensures), eq-eqb _ _ (c .if1 .taken))
 
--- src/lib.rt:115:9
 element-write-r : tie.Need-element-write-r
 element-write-r c = search needs
 
--- src/lib.rt:107:5
 returns-2 : tie.Need-returns-2
 unfolding withMark
 returns-2 c = rw (← (c .before .before .wide .ensures), ne-eqb _ _ (c .if1 .left))

@@ -1,7 +1,7 @@
 -- `has_one` meets its contract: the rules fst and snd.
-use Rattle.machine.proofs.Refuse.{one-first, one-second}
-use Rattle.machine.proofs.has_one.Statement.{statement}
-use Rattle.machine.proofs.has_one.Tie as tie
+use Rattle.term.proofs.Rule.{one-first, one-second}
+use Rattle.submission.proofs.has_one.Statement.{statement}
+use Rattle.submission.proofs.has_one.Tie as tie
 
 returns : tie.Need-returns
 returns c = search one-first
