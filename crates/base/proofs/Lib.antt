@@ -1,3 +1,4 @@
+pub mod AnswerLaws
 pub mod Bools
 pub mod Chain
 pub mod First
@@ -10,3 +11,4 @@ pub mod Overwrite
 pub mod Parts
 pub mod Says
 pub mod Scan
+pub mod StageLaws

@@ -1,2 +1,5 @@
+pub mod Answer
+pub mod Bytes
+pub mod Code
 pub mod First
 pub mod Grow

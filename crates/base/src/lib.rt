@@ -1,2 +1,58 @@
-// Notions that every crate above uses, and their laws: the first failing place of a scan, and a list grown at its end.
-// No code: what it promises is under specs/ and proofs/.
+// What every crate above uses: bytes and wide numbers, what a check and a call answer; in specs/ and proofs/ also the first failing place
+// of a scan and a list grown at its end.
+// Promises: every function is total, and its answer is what the definitions of specs/ give.
+ghost use mathlib.Core.Path.{_≡_};
+ghost use Prim.Native.Nat.{_<_};
+ghost use Rattle.base.specs.Answer.{done, answered};
+ghost use Rattle.base.specs.Bytes.{byte as byteAt, word as wordAt};
+ghost use Rattle.base.specs.Code.{checkOf, answerOf};
+
+// What a check answers: go on, or the refusal's number and place.
+pub enum Stage {
+    Passed,
+    Refused { number: u8, place: u16 },
+}
+
+// What a call answers: a value, or the refusal's number and place.
+pub enum Answer {
+    Done(u16),
+    Refused { number: u8, place: u16 },
+}
+
+// The answer of a check: its refusal, or the value n where it passed.
+pub fn answered_by(stage: Stage, n: u16) -> Answer
+    ensures { λ r. ⌜ answerOf r ≡ answered (checkOf stage) (done n) ⌝ }
+{
+    match stage {
+        Stage::Passed => Answer::Done(n),
+        Stage::Refused { number, place } => Answer::Refused { number, place },
+    }
+}
+
+pub fn wide(x: u8) -> usize
+    ensures { λ r. ⌜ r ≡ x ⌝ }
+{
+    x as usize
+}
+
+// A place or a count as the answers carry it.
+pub fn wide16(x: u8) -> u16
+    ensures { λ r. ⌜ r ≡ x ⌝ }
+{
+    x as u16
+}
+
+// The byte at i, or 0 past the end.
+pub fn byte(s: &[u8], i: usize) -> u8
+    ensures { λ r. ⌜ r ≡ byteAt (now (s .entry)) i ⌝ }
+{
+    if i < s.len() { s[i] } else { 0 }
+}
+
+// Two bytes from i on, high byte first.
+pub fn word(s: &[u8], i: usize) -> usize
+    requires { ⌜ i < 65536 ⌝ }
+    ensures { λ r. ⌜ r ≡ wordAt (now (s .entry)) i ⌝ }
+{
+    wide(byte(s, i)) * 256 + wide(byte(s, i + 1))
+}

@@ -1,14 +1,22 @@
 -- The answers as one number each: what a call returned for C, and what it stands for.
-use mathlib.Core.Path.{_≡_, sym, ap, _∙_}
+use mathlib.Core.Path.{_≡_, ap, _∙_}
 use mathlib.Core.List.{List}
-use Prim.Native.Nat.{ℕ}
-use Rattle.submission.specs.Answer.{Answer}
-use Rattle.checker.specs.declared.Verdict.{Verdict}
-use Rattle.checker.specs.Code.{answerOf, Checked, encoded, Encoded}
+use Prim.Native.Nat.{ℕ, _+_, _*_}
+use Rattle.base.specs.declared.Answer.{Answer as AnswerGiven}
+use Rattle.base.specs.declared.Answer.the-variants as given
+use Rattle.base.specs.Code.{answerOf}
+use Rattle.base.specs.Answer.{Answer, Writes}
+use Rattle.checker.specs.Calls.{encoded, WritesForC}
 
--- v means x by f; it is w, and r was returned for w
-pub encoded-as : {A : Type 0} (f : A → Answer) {v w : A} (x : Answer) {r : ℕ} → f v ≡ x → v ≡ w → r ≡ encoded (f w) → r ≡ encoded x
-encoded-as f x e q g = g ∙ ap encoded (sym (ap f q) ∙ e)
+pub encoded-done : {x : AnswerGiven} {n : ℕ} → x ≡ given.Done n → n ≡ encoded (answerOf x)
+encoded-done e = rw e
 
-pub checked-as : {s page page′ : List ℕ} {v w : Verdict} {r : ℕ} → Checked s page v page′ → v ≡ w → r ≡ encoded (answerOf w) → Encoded s page r page′
-checked-as h q g = record { answer = encoded-as answerOf _ (h .answer) q g; bytes = h .bytes }
+pub encoded-refused : {x : AnswerGiven} {number place : ℕ} → x ≡ given.Refused number place → number * 65536 + place ≡ encoded (answerOf x)
+encoded-refused e = rw e
+
+-- x was answered, and is a; r was returned for x
+pub encoded-as : {x : Answer} (a : Answer) {r : ℕ} → x ≡ a → r ≡ encoded x → r ≡ encoded a
+encoded-as a e g = g ∙ ap encoded e
+
+pub written-as : {a x y : Answer} {written page page′ : List ℕ} {r : ℕ} → Writes a written page x page′ → y ≡ x → r ≡ encoded y → WritesForC a written page r page′
+written-as h e g = record { answer = g ∙ ap encoded (e ∙ h .answer); bytes = h .bytes }

@@ -12,7 +12,7 @@ use Rattle.base.specs.Grow.{grow}
 use Rattle.term.specs.Table.{decoded}
 use Rattle.term.specs.Reduce.{op, cancelled, parted, paired, match?, fits?, isKey?}
 use Rattle.term.specs.Rule.{headOf, wordOf, hasOne}
-use Rattle.submission.specs.Answer.{Answer, done, refused}
+use Rattle.base.specs.Answer.{Answer, done, refused}
 use Rattle.submission.specs.Contents.{start, badContents}
 use Rattle.submission.specs.Record.{shapeOf, recordAt, term, areInverse}
 use Rattle.submission.specs.Claim.{wayOf}
@@ -23,9 +23,9 @@ use Rattle.deduction.specs.Deduce.{builtWithin, round, rounds, entryMarks, isDe
 use Rattle.machine.specs.Program.{relationOf, instructionBytes, bytesOf, instructionAt, testOf, badInstruction, badTest, badProgram}
 use Rattle.machine.specs.Run.{guessed, initial, executed, registers, signals, signal, runAnswer}
 use Rattle.text.specs.Text.{digits, stepLine, testLine, stepLines, answerText}
-use Rattle.checker.specs.Check.{reachable, samePremises, undoesStep, undone, checks1to10, checkAnswer}
-use Rattle.checker.specs.Page as page
-use Rattle.checker.specs.Page.{lowest, instruction, program, pageAfter}
+use Rattle.conditions.specs.Check.{reachable, samePremises, undoesStep, undone, checks1to10, checkAnswer}
+use Rattle.conditions.specs.Page as page
+use Rattle.conditions.specs.Page.{lowest, instruction, program, pageChecked}
 use Rattle.checker.specs.Text.{verdictText}
 
 -- what is seen of a submission
@@ -280,9 +280,9 @@ abbrev pub got : Example → Outcome
 got e =
     record {
       answer = checkAnswer (e .bytes) (e .length);
-      page = pageAfter (e .bytes) (replicate (e .length) 0);
+      page = pageChecked (e .bytes) (replicate (e .length) 0);
       text = verdictText (e .bytes);
-      signals = map (λ name. runAnswer (e .bytes) name (pageAfter (e .bytes) (replicate (e .length) 0))) (e .names);
+      signals = map (λ name. runAnswer (e .bytes) name (pageChecked (e .bytes) (replicate (e .length) 0))) (e .names);
     }
 
 abbrev pub want : Example → Outcome
@@ -290,7 +290,7 @@ want e = e .wanted
 
 -- the one computed fact
 pub table-right : map got table ≡ map want table
-unfolding first firstFrom any grow decoded op cancelled parted paired match? fits? isKey? headOf wordOf hasOne start badContents shapeOf recordAt term areInverse wayOf badTerm badKnowledge goodClaim checks1to4 checks1to5 registerTerm secondAt badStep unfounded checkSteps builtWithin round rounds entryMarks isDeducible relationOf instructionBytes bytesOf instructionAt testOf badInstruction badTest badProgram guessed initial executed registers signals signal runAnswer reachable samePremises undoesStep undone checks1to10 checkAnswer page.testOf lowest instruction program pageAfter digits stepLine testLine stepLines answerText verdictText Dec·and ℕ-discrete
+unfolding first firstFrom any grow decoded op cancelled parted paired match? fits? isKey? headOf wordOf hasOne start badContents shapeOf recordAt term areInverse wayOf badTerm badKnowledge goodClaim checks1to4 checks1to5 registerTerm secondAt badStep unfounded checkSteps builtWithin round rounds entryMarks isDeducible relationOf instructionBytes bytesOf instructionAt testOf badInstruction badTest badProgram guessed initial executed registers signals signal runAnswer reachable samePremises undoesStep undone checks1to10 checkAnswer page.testOf lowest instruction program pageChecked digits stepLine testLine stepLines answerText verdictText Dec·and ℕ-discrete
 table-right = refl
 
 -- what it says of each example

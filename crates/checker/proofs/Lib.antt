@@ -1,16 +1,5 @@
-pub mod Acceptance
-pub mod AcceptanceConditions
 pub mod Encoding
 pub mod Examples
 pub mod Long
 pub mod Printing
-pub mod Program
-pub mod Promise
 pub mod PromiseExamples
-pub mod Refusal
-pub mod SecondWay
-pub mod Signal
-pub mod Standing
-pub mod Undone
-pub mod Verdicts
-pub mod Writing

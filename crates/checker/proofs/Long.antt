@@ -13,11 +13,12 @@ use lib.Seq.{getD-take}
 use borrow.Author.Tests.{ne-eqb}
 use Rattle.base.specs.First.{any}
 use Rattle.base.proofs.Bools.{or-right}
-use Rattle.submission.specs.Answer.{refused}
-use Rattle.submission.specs.Contents.{Bytes, start, wrongLetter, wrongStart, badContents}
+use Rattle.base.specs.Answer.{refused}
+use Rattle.base.specs.Bytes.{Bytes}
+use Rattle.submission.specs.Contents.{start, wrongLetter, wrongStart, badContents}
 use Rattle.submission.specs.Check.{checks1to4, checks1to5}
 use Rattle.text.specs.Text.{answerText, refusedText}
-use Rattle.checker.specs.Check.{checks1to10, checkAnswer}
+use Rattle.conditions.specs.Check.{checks1to10, checkAnswer}
 use Rattle.checker.specs.Text.{verdictText}
 
 -- the bodies end at byte 3,076 at the latest

@@ -15,16 +15,17 @@ use Rattle.base.specs.Grow.{grow}
 use Rattle.term.specs.Term.{Term, atom, node, term?, test, asymmetric, inverse, Match, Part}
 use Rattle.term.specs.Table.{decoded}
 use Rattle.term.proofs.Reduce.{says-test, match-sym}
-use Rattle.submission.specs.Answer.{done}
-use Rattle.submission.specs.Contents.{Bytes, start}
+use Rattle.base.specs.Answer.{done}
+use Rattle.base.specs.Bytes.{Bytes}
+use Rattle.submission.specs.Contents.{start}
 use Rattle.submission.specs.Record.{entries, entryAt, guess, nameAt, term, recordAt, shapeOf, InKnowledge}
 use Rattle.machine.specs.Program.{programLength}
 use Rattle.machine.specs.Run.{guessed, runAnswer}
-use Rattle.checker.specs.Page.{pageAfter}
-use Rattle.checker.specs.Wrong.{WrongGuess}
+use Rattle.conditions.specs.Page.{pageChecked}
+use Rattle.conditions.specs.Wrong.{WrongGuess}
 use Rattle.checker.proofs.Examples.{Example, m1, m3, m8, got, want, example-right}
-use Rattle.checker.proofs.Acceptance.{accepted-iff}
-use Rattle.checker.proofs.Promise.{KeptPromise, demand-3}
+use Rattle.conditions.proofs.Acceptance.{accepted-iff}
+use Rattle.conditions.proofs.Promise.{KeptPromise, demand-3}
 
 -- ---- the hypotheses as tests
 areBytes : List ℕ → Bool
@@ -79,7 +80,7 @@ is-wrong s name e =
 abbrev pub Shown : Example → ℕ → ℕ → Type 0
 Shown e n name =
     (page : List ℕ) → length page ≡ 388 →
-    KeptPromise (e .bytes) page n × WrongGuess (e .bytes) name × (runAnswer (e .bytes) name (take (programLength n) (pageAfter (e .bytes) page)) ≡ done 0)
+    KeptPromise (e .bytes) page n × WrongGuess (e .bytes) name × (runAnswer (e .bytes) name (take (programLength n) (pageChecked (e .bytes) page)) ≡ done 0)
 
 -- it is enough that the example is accepted with a shorter page, and that the tests say so
 shown : (e : Example) (n name : ℕ) → got e ≡ want e → e .wanted .answer ≡ done n → e .length ≤ 388 →

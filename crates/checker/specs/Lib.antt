@@ -1,6 +1,2 @@
-pub mod Check
-pub mod Code
-pub mod Condition
-pub mod Page
+pub mod Calls
 pub mod Text
-pub mod Wrong

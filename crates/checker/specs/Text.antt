@@ -4,9 +4,9 @@ use Prim.Native.Nat.{ℕ}
 use lib.ListN.{replicate}
 use Rattle.submission.specs.Record.{entries}
 use Rattle.text.specs.Text.{answerText}
-use Rattle.checker.specs.Check.{checkAnswer}
-use Rattle.checker.specs.Page.{pageAfter}
+use Rattle.conditions.specs.Check.{checkAnswer}
+use Rattle.conditions.specs.Page.{pageChecked}
 
 -- "with a page of 388 bytes"
 unfoldable pub verdictText : List ℕ → List ℕ
-verdictText s = answerText (entries s) (checkAnswer s 388) (pageAfter s (replicate 388 0))
+verdictText s = answerText (entries s) (checkAnswer s 388) (pageChecked s (replicate 388 0))

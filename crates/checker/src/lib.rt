@@ -1,76 +1,14 @@
-// The verdict on a submission: the five conditions, and the register program of an accepted one.
-// Promises: every call is total, and its answer and the page's later bytes are what the definitions of specs/ give.
+// The public calls together: `check`, `deducible` and `run`, the text of a verdict, and the calls for C.
+// Promises: every call is total, for all bytes, and its answer and the bytes that it writes are what the definitions of specs/ give.
 mod calls;
-mod conditions;
-mod page;
 
-use submission::Stage;
-// The three calls stand together here.
+use conditions::Verdict;
+pub use conditions::check;
 pub use deduction::deducible;
 pub use machine::run;
-ghost use mathlib.Core.Path.{_≡_};
-ghost use lib.ListN.{length, replicate};
-ghost use Rattle.submission.specs.Answer.{done, answered};
-ghost use Rattle.submission.specs.Stage.{checkOf};
-ghost use Rattle.checker.specs.Check.{check11};
-ghost use Rattle.checker.specs.Code.{answerOf, Checked, Printed};
-
-// An acceptance carries the count of steps, a refusal its number and place.
-pub enum Verdict {
-    Accepted(u8),
-    Refused { number: u8, place: u16 },
-}
-
-// The verdict of a check: its refusal, or acceptance with n where it passed.
-fn verdict_of(stage: Stage, n: u8) -> Verdict
-    ensures { λ r. ⌜ answerOf r ≡ answered (checkOf stage) (done n) ⌝ }
-{
-    match stage {
-        Stage::Passed => Verdict::Accepted(n),
-        Stage::Refused { number, place } => Verdict::Refused { number, place },
-    }
-}
-
-// Check 11.
-fn check_page(s: &[u8], page: &[u8]) -> Stage
-    ensures { λ r. ⌜ checkOf r ≡ check11 (now (s .entry)) (length (now (page .entry))) ⌝ }
-{
-    let needed = page::program_length(submission::steps(s));
-    if page.len() < needed as usize {
-        return Stage::Refused {
-            number: 11,
-            place: needed,
-        };
-    }
-    Stage::Passed
-}
-
-// Checks a submission: the checks in order, a refusal straight out. Only an acceptance writes: the register program, at the page's start.
-pub fn check(s: &[u8], page: &mut [u8]) -> Verdict
-    ensures { λ r. ⌜ Checked (now (s .entry)) (now (page .entry)) r (now (page .exit)) ⌝ }
-{
-    let count = submission::steps(s);
-    let reading = submission::check_reading(s);
-    let Stage::Passed = reading else {
-        return verdict_of(reading, count);
-    };
-    let checked = derivation::check_steps(s);
-    let steps = checked.stage;
-    let Stage::Passed = steps else {
-        return verdict_of(steps, count);
-    };
-    let registers = checked.registers;
-    let met = conditions::check_conditions(s, registers);
-    let Stage::Passed = met else {
-        return verdict_of(met, count);
-    };
-    let room = check_page(s, page);
-    let Stage::Passed = room else {
-        return verdict_of(room, count);
-    };
-    page::write_program(s, registers, page);
-    Verdict::Accepted(count)
-}
+ghost use lib.ListN.{replicate};
+ghost use Rattle.conditions.specs.Calls.{Checked};
+ghost use Rattle.checker.specs.Calls.{Printed};
 
 // The text of a verdict, with the program on its page of 388 bytes.
 fn write_text(s: &[u8], verdict: Verdict, page: &[u8], out: &mut [u8]) -> usize

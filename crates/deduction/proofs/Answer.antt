@@ -14,11 +14,11 @@ use Rattle.term.specs.Step.{Deducible}
 use Rattle.term.proofs.Reach.{Reach, known, reach-iff, reach-reach}
 use Rattle.term.specs.Table.{Table}
 use Rattle.term.proofs.Table.{tables-agree}
-use Rattle.submission.specs.Answer.{done, refused, passes, failsIf, andThen}
-use Rattle.submission.specs.Contents.{Bytes}
+use Rattle.base.specs.Answer.{done, refused, passes, failsIf, andThen}
+use Rattle.base.specs.Bytes.{Bytes}
 use Rattle.submission.specs.Check.{checks1to4}
 use Rattle.submission.specs.Record.{terms, entryAt, recordAt, term, InKnowledge}
-use Rattle.submission.proofs.Answer.{then-passes, if-passes, answered-done}
+use Rattle.base.proofs.AnswerLaws.{then-passes, if-passes, answered-done}
 use Rattle.submission.proofs.Listed.{Listed, listed}
 use Rattle.deduction.specs.Deduce.{entryMarks, isDeducible, deducibleAnswer, Alike}
 use Rattle.deduction.proofs.Exact.{deducible-iff}

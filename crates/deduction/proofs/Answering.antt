@@ -6,25 +6,22 @@ use Prim.Native.Nat.{ℕ, _<_, _≤_}
 use native.Mathlib.Omega.{arith}
 use lib.Dec.{ltb}
 use borrow.Author.Tests.{lt-ltb, le-ltb}
-use Rattle.submission.specs.declared.Stage.{Stage}
-use Rattle.submission.specs.declared.Stage.the-variants.{Passed, Refused}
-use Rattle.submission.specs.Answer.{done, refused, answered}
-use Rattle.submission.specs.Contents.{Bytes}
+use Rattle.base.specs.declared.Stage.{Stage}
+use Rattle.base.specs.declared.Stage.the-variants.{Passed, Refused}
+use Rattle.base.specs.Answer.{done, refused, answered}
+use Rattle.base.specs.Bytes.{Bytes}
 use Rattle.submission.specs.Record.{terms}
-use Rattle.submission.specs.Stage.{checkOf}
+use Rattle.base.specs.Code.{checkOf, answerOf}
 use Rattle.submission.specs.Check.{checks1to4}
-use Rattle.deduction.specs.declared.Deduced.{Deduced}
+use Rattle.base.specs.declared.Answer.{Answer}
 use Rattle.deduction.specs.Deduce.{entryMarks, isDeducible, deducibleAnswer}
-use Rattle.deduction.specs.Code.{answerOf, Read}
+use Rattle.deduction.specs.Code.{Read}
 
 pub read : {s : List ℕ} {st : Stage} → Bytes s → checkOf st ≡ checks1to4 s → st ≡ Passed → Read s
 read b e p = record { bytes = b; passed = sym e ∙ ap checkOf p }
 
-pub refusal : (st : Stage) {m k : ℕ} → st ≡ Refused m k → refused m k ≡ answered (checkOf st) (done 0)
-refusal st e = rw e
-
 module _ (s : List ℕ) {st : Stage} (e : checkOf st ≡ checks1to4 s) where
-  pub check-refused : (t : ℕ) {m k : ℕ} (r : Deduced) → st ≡ Refused m k → answerOf r ≡ answered (checkOf st) (done 0) → answerOf r ≡ deducibleAnswer s t
+  pub check-refused : (t : ℕ) {m k : ℕ} (r : Answer) → st ≡ Refused m k → answerOf r ≡ answered (checkOf st) (done 0) → answerOf r ≡ deducibleAnswer s t
   unfolding deducibleAnswer
   check-refused t r p h = h ∙ rw (← e, p)
 

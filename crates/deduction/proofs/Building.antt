@@ -18,7 +18,7 @@ use Rattle.base.proofs.Says.{says-eqb}
 use Rattle.term.specs.Term.{plain, public, private, symmetric, asymmetric, pair, part, encrypt, decrypt}
 use Rattle.term.specs.Table.{Rec, leaf, branch, Below}
 use Rattle.submission.specs.declared.Term.{Term}
-use Rattle.submission.specs.Stage.{IsTerm}
+use Rattle.submission.specs.Code.{IsTerm}
 use Rattle.submission.specs.Record.{terms, entries, entryAt, kindAt, xAt, yAt, nameAt, Shape, atomic, compound, shapeOf, recordOf, recordAt, areInverse}
 use Rattle.submission.proofs.Shape.{shape-kind, Shaped}
 use Rattle.submission.proofs.Listed.{Listed, listed}

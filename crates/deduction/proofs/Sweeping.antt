@@ -20,7 +20,7 @@ use Rattle.term.specs.Table.{branch, Below}
 use Rattle.term.proofs.Reduce.{match-det}
 use Rattle.term.proofs.Reach.{known, reach-iff}
 use Rattle.submission.specs.declared.Term.{Term}
-use Rattle.submission.specs.Stage.{IsTerm}
+use Rattle.submission.specs.Code.{IsTerm}
 use Rattle.submission.specs.Record.{terms, entries, entryAt, kindAt, xAt, yAt, nameAt, atomic, shapeOf, recordOf, recordAt, term, InKnowledge, areInverse}
 use Rattle.submission.proofs.Listed.{Listed}
 use Rattle.deduction.specs.Deduce.{at, built, opens, gives, entryMarks, isDeducible}

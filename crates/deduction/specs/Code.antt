@@ -1,4 +1,4 @@
--- What the code's arrays and answers mean.
+-- What the code's arrays mean.
 use mathlib.Core.Path.{_≡_}
 use mathlib.Core.Logic.{_⊎_}
 use mathlib.Core.Bool.{Bool, true, false, cond}
@@ -9,20 +9,12 @@ use lib.Dec.{eqb}
 use lib.ListN.{length, getD, set}
 use Rattle.base.specs.First.{first}
 use Rattle.term.specs.Step.{Deducible}
-use Rattle.submission.specs.Answer.{Answer, done, refused, passes}
-use Rattle.submission.specs.Contents.{Bytes}
+use Rattle.base.specs.Answer.{passes}
+use Rattle.base.specs.Bytes.{Bytes}
 use Rattle.submission.specs.Record.{terms, entries, entryAt, recordAt, term, InKnowledge, areInverse}
 use Rattle.submission.specs.Check.{checks1to4}
-use Rattle.deduction.specs.declared.Deduced.{Deduced}
-use Rattle.deduction.specs.declared.Deduced.the-variants.{Yes, No, Refused}
 use Rattle.deduction.specs.declared.Round.{Round}
 use Rattle.deduction.specs.Deduce.{built, gives, entryMarks, isDeducible}
-
--- yes is 1, no is 0
-abbrev pub answerOf : Deduced → Answer
-answerOf Yes = done 1
-answerOf No = done 0
-answerOf (Refused number place) = refused number place
 
 -- bytes that passed checks 1 to 4
 pub record Read (s : List ℕ) : Type 0 where

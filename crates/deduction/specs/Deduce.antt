@@ -11,7 +11,7 @@ use Rattle.base.specs.First.{any}
 use Rattle.base.specs.Grow.{listed}
 use Rattle.term.specs.Term.{Cipher, symmetric, asymmetric, pair, part, encrypt, decrypt}
 use Rattle.term.specs.Table.{Rec, leaf, branch}
-use Rattle.submission.specs.Answer.{Answer, done, failsIf, andThen, answered}
+use Rattle.base.specs.Answer.{Answer, done, failsIf, andThen, answered}
 use Rattle.submission.specs.Record.{terms, entries, entryAt, recordAt, areInverse}
 use Rattle.submission.specs.Check.{checks1to4}
 

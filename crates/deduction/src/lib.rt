@@ -3,24 +3,17 @@
 // exactly when some finite list of Dolev-Yao steps reaches the term from the knowledge.
 // Cost, for T terms: the inverses are found once, by at most T looks through the table. A round treats each term once and decides each
 // at most once, since the build test keeps its answers. Every round but the last marks a term. So at most T rounds of T terms.
-use submission::Stage;
+use base::Answer;
+use base::Stage;
 ghost use mathlib.Core.Path.{_≡_};
 ghost use mathlib.Core.Bool.{_&&_};
 ghost use Prim.Native.Nat.{_+_, _*_, _≤_, _<_};
 ghost use lib.ListN.{length};
 ghost use Rattle.base.specs.First.{first};
-ghost use Rattle.submission.specs.Answer.{done, answered};
 ghost use Rattle.submission.specs.Record.{terms, entries, areInverse};
-ghost use Rattle.submission.specs.Stage.{checkOf};
+ghost use Rattle.base.specs.Code.{answerOf};
 ghost use Rattle.deduction.specs.Deduce.{entryMarks, isDeducible, deducibleAnswer};
-ghost use Rattle.deduction.specs.Code.{answerOf, Read, Entered, orNone, Inverses, Memo, Decided, Sound, Exact, withMark, Swept, Opened, Unbuilt, Settled};
-
-// What `deducible` answers.
-pub enum Deduced {
-    Yes,
-    No,
-    Refused { number: u8, place: u16 },
-}
+ghost use Rattle.deduction.specs.Code.{Read, Entered, orNone, Inverses, Memo, Decided, Sound, Exact, withMark, Swept, Opened, Unbuilt, Settled};
 
 // A number for each term number.
 pub struct Marks {
@@ -34,7 +27,7 @@ fn entry_marks(s: &[u8]) -> Marks
     let mut m = Marks { state: [0u8; 256] };
     let n = submission::entries(s);
     for i in 0..n {
-        let t = submission::wide(submission::entry_at(s, i));
+        let t = base::wide(submission::entry_at(s, i));
         m.state[t] = 1;
     }
     m
@@ -66,7 +59,7 @@ fn inverses(s: &[u8]) -> Marks
     };
     let n = submission::terms(s);
     for k in 0..n {
-        m.state[submission::wide(k)] = inverse_of(s, k);
+        m.state[base::wide(k)] = inverse_of(s, k);
     }
     m
 }
@@ -80,7 +73,7 @@ fn build(s: &[u8], known: &[u8; 256], memo: Marks, t: u8) -> Marks
     ensures { λ r. ⌜ Decided (now (s .entry)) (now (known .entry)) t (memo .state) (r .state) ⌝ }
 {
     let mut out = memo;
-    let i = submission::wide(t);
+    let i = base::wide(t);
     let mark = out.state[i];
     if mark != 0 {
         return out;
@@ -95,13 +88,13 @@ fn build(s: &[u8], known: &[u8; 256], memo: Marks, t: u8) -> Marks
         return out;
     }
     let mut left = build(s, known, out, term.x);
-    let first = left.state[submission::wide(term.x)];
+    let first = left.state[base::wide(term.x)];
     if first == 2 {
         left.state[i] = 2;
         return left;
     }
     let mut both = build(s, known, left, term.y);
-    let second = both.state[submission::wide(term.y)];
+    let second = both.state[base::wide(term.y)];
     both.state[i] = second;
     both
 }
@@ -117,7 +110,7 @@ impl Round {
     fn mark(self, t: u8) -> Self
         ensures { λ r. ⌜ r ≡ withMark self t ⌝ }
     {
-        let i = submission::wide(t);
+        let i = base::wide(t);
         if self.state[i] == 1 {
             return self;
         }
@@ -145,7 +138,7 @@ fn opened(s: &[u8], known: &[u8; 256], r: Round, body: u8, key: u8) -> Round
         memo,
         changed,
     };
-    let answer = memo[submission::wide(key)];
+    let answer = memo[base::wide(key)];
     if answer == 1 {
         return next.mark(body);
     }
@@ -156,7 +149,7 @@ fn opened(s: &[u8], known: &[u8; 256], r: Round, body: u8, key: u8) -> Round
 fn is_missing(s: &[u8], known: &[u8; 256], k: u8) -> bool
     ensures { λ b. ⌜ Unbuilt (now (s .entry)) (now (known .entry)) k b ⌝ }
 {
-    if known[submission::wide(k)] == 1 {
+    if known[base::wide(k)] == 1 {
         return false;
     }
     let term = submission::term_at(s, k);
@@ -171,24 +164,24 @@ fn is_settled(s: &[u8], inverses: &[u8; 256], known: &[u8; 256], state: &[u8; 25
     requires { ⌜ Inverses (now s) (terms (now s)) (now inverses) ⌝ }
     ensures { λ b. ⌜ Settled (now (s .entry)) (now (known .entry)) (now (state .entry)) t b ⌝ }
 {
-    if state[submission::wide(t)] != 1 {
+    if state[base::wide(t)] != 1 {
         return true;
     }
     let term = submission::term_at(s, t);
     if term.kind == 4 {
-        if state[submission::wide(term.x)] != 1 {
+        if state[base::wide(term.x)] != 1 {
             return false;
         }
-        return state[submission::wide(term.y)] == 1;
+        return state[base::wide(term.y)] == 1;
     }
-    if state[submission::wide(term.x)] == 1 {
+    if state[base::wide(term.x)] == 1 {
         return true;
     }
     if term.kind == 5 {
         return is_missing(s, known, term.y);
     }
     if term.kind == 6 {
-        let key = inverses[submission::wide(term.y)];
+        let key = inverses[base::wide(term.y)];
         if key == 255 {
             return true;
         }
@@ -205,7 +198,7 @@ fn taken_apart(s: &[u8], inverses: &[u8; 256], known: &[u8; 256], r: Round, t: u
     requires { ⌜ Swept (now s) (now known) (t + 1) r ⌝ }
     ensures { λ q. ⌜ Swept (now (s .entry)) (now (known .entry)) t q ⌝ }
 {
-    if r.state[submission::wide(t)] != 1 {
+    if r.state[base::wide(t)] != 1 {
         return r;
     }
     let term = submission::term_at(s, t);
@@ -216,7 +209,7 @@ fn taken_apart(s: &[u8], inverses: &[u8; 256], known: &[u8; 256], r: Round, t: u
         return opened(s, known, r, term.x, term.y);
     }
     if term.kind == 6 {
-        let key = inverses[submission::wide(term.y)];
+        let key = inverses[base::wide(term.y)];
         if key == 255 {
             return r;
         }
@@ -275,12 +268,12 @@ pub fn are_deducible(s: &[u8], p: u8, q: u8) -> bool
 {
     let known = saturated(s);
     let first = build(s, &known.state, Marks { state: [0u8; 256] }, p);
-    let answer = first.state[submission::wide(p)];
+    let answer = first.state[base::wide(p)];
     if answer != 1 {
         return false;
     }
     let both = build(s, &known.state, first, q);
-    both.state[submission::wide(q)] == 1
+    both.state[base::wide(q)] == 1
 }
 
 fn is_deducible(s: &[u8], t: u8) -> bool
@@ -290,35 +283,25 @@ fn is_deducible(s: &[u8], t: u8) -> bool
 {
     let known = saturated(s);
     let decided = build(s, &known.state, Marks { state: [0u8; 256] }, t);
-    decided.state[submission::wide(t)] == 1
+    decided.state[base::wide(t)] == 1
 }
 
-// The refusal of a check.
-fn refused(stage: Stage) -> Deduced
-    ensures { λ r. ⌜ answerOf r ≡ answered (checkOf stage) (done 0) ⌝ }
-{
-    match stage {
-        Stage::Passed => Deduced::No,
-        Stage::Refused { number, place } => Deduced::Refused { number, place },
-    }
-}
-
-// Whether term t is deducible from the knowledge of the submission.
-pub fn deducible(s: &[u8], t: u8) -> Deduced
+// Whether term t is deducible from the knowledge of the submission: 1 for yes, 0 for no.
+pub fn deducible(s: &[u8], t: u8) -> Answer
     ensures { λ r. ⌜ answerOf r ≡ deducibleAnswer (now (s .entry)) t ⌝ }
 {
     let body = submission::check_body(s);
     let Stage::Passed = body else {
-        return refused(body);
+        return base::answered_by(body, 0);
     };
     if submission::terms(s) <= t {
-        return Deduced::Refused {
+        return Answer::Refused {
             number: 12,
             place: 0,
         };
     }
     if is_deducible(s, t) {
-        return Deduced::Yes;
+        return Answer::Done(1);
     }
-    Deduced::No
+    Answer::Done(0)
 }

@@ -11,9 +11,9 @@ use Rattle.term.specs.Term.{Cipher, symmetric, asymmetric, Side, left, right, H
 use Rattle.term.specs.Reduce.{pick}
 use Rattle.term.specs.Step.{Step}
 use Rattle.term.specs.Rule.{rules, headOf, hasOne}
-use Rattle.submission.specs.Answer.{passes}
+use Rattle.base.specs.Answer.{passes}
 use Rattle.submission.specs.Record.{terms, steps, kindAt, xAt, yAt, ruleAt, pAt, qAt, conclusionAt, compound, kindOf, term}
-use Rattle.submission.proofs.Answer.{fails-not-passes}
+use Rattle.base.proofs.AnswerLaws.{fails-not-passes}
 use Rattle.submission.proofs.Shape.{Listable}
 use Rattle.submission.proofs.Listed.{Listed, compound-term}
 use Rattle.derivation.specs.Step.{secondAt, isRecord, partAt, opensWith, follows, badStep, unfounded, stepFault, checkSteps}

@@ -17,7 +17,7 @@ use Rattle.base.proofs.Order.{lt-or-ge}
 use Rattle.submission.specs.declared.Claim.{Claim}
 use Rattle.submission.specs.Contents.{Limited}
 use Rattle.submission.specs.Record.{entries, steps, entryAt}
-use Rattle.submission.specs.Stage.{IsClaim}
+use Rattle.submission.specs.Code.{IsClaim}
 use Rattle.derivation.specs.declared.Step.{Step}
 use Rattle.derivation.specs.declared.Registers.{Registers}
 use Rattle.derivation.specs.Register.{registerTerm, written, lowestOf}

@@ -9,11 +9,11 @@ use lib.ListN.{getD}
 use borrow.Author.Tests.{ne-eqb}
 use Rattle.base.proofs.First.{Passed as PassedTo, passed-more, passed-hit, passed-all}
 use Rattle.term.specs.Rule.{hasOne}
-use Rattle.submission.specs.Answer.{passes, fails, failsIf, andThen}
+use Rattle.base.specs.Answer.{passes, fails, failsIf, andThen}
 use Rattle.submission.specs.Record.{steps}
-use Rattle.submission.specs.Stage.{checkOf}
-use Rattle.submission.specs.declared.Stage.{Stage}
-use Rattle.submission.specs.declared.Stage.the-variants.{Passed, Refused}
+use Rattle.base.specs.Code.{checkOf}
+use Rattle.base.specs.declared.Stage.{Stage}
+use Rattle.base.specs.declared.Stage.the-variants.{Passed, Refused}
 use Rattle.derivation.specs.declared.Step.{Step}
 use Rattle.derivation.specs.declared.Registers.{Registers}
 use Rattle.derivation.specs.Register.{written}

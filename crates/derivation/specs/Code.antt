@@ -6,10 +6,10 @@ use mathlib.Core.Option.{Option, none, some}
 use Prim.Native.Nat.{ℕ, _+_, _<_}
 use lib.Dec.{eqb}
 use lib.ListN.{getD, set}
-use Rattle.submission.specs.Answer.{Check, failsIf, andThen}
+use Rattle.base.specs.Answer.{Check, failsIf, andThen}
 use Rattle.submission.specs.Record.{steps, ruleAt, pAt, qAt, conclusionAt}
-use Rattle.submission.specs.Stage.{checkOf}
-use Rattle.submission.specs.declared.Stage.the-variants.{Passed}
+use Rattle.base.specs.Code.{checkOf}
+use Rattle.base.specs.declared.Stage.the-variants.{Passed}
 use Rattle.derivation.specs.declared.Step.{Step}
 use Rattle.derivation.specs.declared.Registers.{Registers}
 use Rattle.derivation.specs.declared.Checked.{Checked}

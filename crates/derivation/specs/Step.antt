@@ -7,7 +7,7 @@ use lib.Dec.{eqb, ltb}
 use Rattle.base.specs.First.{first}
 use Rattle.term.specs.Term.{Cipher, symmetric, asymmetric, Side, left, right, Head, pair, part, encrypt, decrypt}
 use Rattle.term.specs.Rule.{isRule, headOf, hasOne}
-use Rattle.submission.specs.Answer.{Check, passes, fails}
+use Rattle.base.specs.Answer.{Check, passes, fails}
 use Rattle.submission.specs.Record.{terms, steps, kindAt, xAt, yAt, ruleAt, pAt, qAt, conclusionAt, compound, kindOf, areInverse}
 use Rattle.derivation.specs.Register.{isKnown}
 

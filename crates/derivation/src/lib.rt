@@ -1,6 +1,6 @@
 // The steps of a derivation: checks 6 and 7, and the registers that hold their terms.
 // Promises: every function is total, and its answer is what the definitions of specs/ give.
-use submission::Stage;
+use base::Stage;
 use submission::Term;
 ghost use mathlib.Core.Path.{_≡_};
 ghost use mathlib.Core.Bool.{cond, _&&_};
@@ -10,7 +10,7 @@ ghost use lib.ListN.{getD};
 ghost use Rattle.term.specs.Rule.{headOf, hasOne};
 ghost use Rattle.submission.specs.Contents.{Limited};
 ghost use Rattle.submission.specs.Record.{entries, areInverse};
-ghost use Rattle.submission.specs.Stage.{checkOf};
+ghost use Rattle.base.specs.Code.{checkOf};
 ghost use Rattle.derivation.specs.Register.{written};
 ghost use Rattle.derivation.specs.Step.{follows as followsBy, badStep, unfounded};
 ghost use Rattle.derivation.specs.Code.{IsStep, Registered, Unused, Added, checkStep, StepsChecked};
@@ -26,12 +26,12 @@ pub struct Step {
 pub fn step_at(s: &[u8], i: u8) -> Step
     ensures { λ r. ⌜ IsStep (now (s .entry)) i r ⌝ }
 {
-    let at = submission::derivation_start(s) + 4 * submission::wide(i);
+    let at = submission::derivation_start(s) + 4 * base::wide(i);
     Step {
-        rule: submission::byte(s, at),
-        p: submission::byte(s, at + 1),
-        q: submission::byte(s, at + 2),
-        conclusion: submission::byte(s, at + 3),
+        rule: base::byte(s, at),
+        p: base::byte(s, at + 1),
+        q: base::byte(s, at + 2),
+        conclusion: base::byte(s, at + 3),
     }
 }
 
@@ -148,7 +148,7 @@ impl Registers {
     {
         let mut r = self;
         let used = r.used;
-        let i = submission::wide(t);
+        let i = base::wide(t);
         r.used = used + 1;
         if r.first[i] != 255 {
             return r;
@@ -161,7 +161,7 @@ impl Registers {
     pub fn lowest(self, t: u8) -> u8
         ensures { λ r. ⌜ r ≡ getD (self .first) t 0 ⌝ }
     {
-        let i = submission::wide(t);
+        let i = base::wide(t);
         self.first[i]
     }
 }
@@ -200,13 +200,13 @@ fn check_step(s: &[u8], before: Registers, i: u8) -> Stage
     if is_step_bad(s, i) {
         return Stage::Refused {
             number: 6,
-            place: submission::wide16(i),
+            place: base::wide16(i),
         };
     }
     if is_unfounded(s, before, i) {
         return Stage::Refused {
             number: 7,
-            place: submission::wide16(i),
+            place: base::wide16(i),
         };
     }
     Stage::Passed

@@ -17,7 +17,7 @@ use Rattle.term.specs.Table.{leaf, message, void, decoded, Table}
 use Rattle.term.specs.Rule.{ruleOf}
 use Rattle.submission.specs.declared.Term.{Term as TermRead}
 use Rattle.submission.specs.Record.{kindOf, terms, entries, entryAt, guess, kindAt, nameAt, Shape, atomic, compound, shapeOf, recordAt, term}
-use Rattle.submission.specs.Stage.{IsTerm}
+use Rattle.submission.specs.Code.{IsTerm}
 use Rattle.submission.proofs.Shape.{shape-kind, Listable, kind-shape, Shaped}
 use Rattle.submission.proofs.Listed.{Claimed, claimed}
 use Rattle.machine.specs.declared.Node.{Node}

@@ -9,7 +9,7 @@ use lib.Seq.{getD-append-seam}
 use borrow.Author.Tests.{eq-eqb, ne-eqb, le-ltb}
 use Rattle.base.specs.First.{any}
 use Rattle.base.proofs.First.{passed-not-any}
-use Rattle.submission.specs.Contents.{byte}
+use Rattle.base.specs.Bytes.{byte}
 use Rattle.submission.specs.Record.{entries}
 use Rattle.machine.specs.Program.{Instruction, Test, Program, instructionBytes, bytesOf, programLength, instructionAt, testOf, badInstruction, badTest, badProgram}
 

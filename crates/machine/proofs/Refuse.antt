@@ -14,7 +14,7 @@ use Rattle.base.proofs.First.{Passed}
 use Rattle.base.proofs.Scan.{true-any, false-any}
 use Rattle.base.proofs.Order.{lt-or-ge}
 use Rattle.term.specs.Rule.{rules, hasOne}
-use Rattle.submission.specs.Contents.{byte}
+use Rattle.base.specs.Bytes.{byte}
 use Rattle.submission.specs.Record.{entries}
 use Rattle.machine.specs.Program.{Instruction, Test, inverse, relationOf, isTest, instructionAt, testOf, badInstruction, badTest, badProgram}
 

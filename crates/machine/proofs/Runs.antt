@@ -15,18 +15,18 @@ use Rattle.base.proofs.Says.{says-true, says-ltb, says-and, says-any, denies, n
 use Rattle.term.specs.Term.{asymmetric, test}
 use Rattle.term.specs.Reduce.{match?}
 use Rattle.term.specs.Rule.{rules, hasOne}
-use Rattle.submission.specs.declared.Stage.{Stage}
-use Rattle.submission.specs.declared.Stage.the-variants.{Passed, Refused}
-use Rattle.submission.specs.Answer.{done, refused, answered}
-use Rattle.submission.specs.Contents.{Bytes, byte}
+use Rattle.base.specs.declared.Stage.{Stage}
+use Rattle.base.specs.declared.Stage.the-variants.{Passed, Refused}
+use Rattle.base.specs.Answer.{done, refused, answered}
+use Rattle.base.specs.Bytes.{Bytes, byte}
 use Rattle.submission.specs.Record.{entries}
 use Rattle.submission.specs.Check.{checks1to5}
-use Rattle.submission.specs.Stage.{checkOf}
+use Rattle.base.specs.Code.{checkOf, answerOf}
 use Rattle.machine.specs.declared.Machine.{Machine}
-use Rattle.machine.specs.declared.Outcome.{Outcome}
+use Rattle.base.specs.declared.Answer.{Answer}
 use Rattle.machine.specs.Program.{Instruction, Test, Relation, equal, inverse, relationOf, isTest, operand, instructionAt, testOf, programLength, badInstruction, badTest, badProgram}
 use Rattle.machine.specs.Run.{executed, registers, holds, signals, signal, runAnswer}
-use Rattle.machine.specs.Code.{answerOf, termAt, register, values, Gives, Executable, Read, Started, Running, Testable}
+use Rattle.machine.specs.Code.{termAt, register, values, Gives, Executable, Read, Started, Running, Testable}
 use Rattle.machine.proofs.Executes.{value-at}
 use Rattle.machine.proofs.Keys.{one-term}
 use Rattle.machine.proofs.Loads.{facts}
@@ -129,9 +129,6 @@ module _ (P : List ℕ) {m : Machine} {u : Test} {p q : ℕ} (w : Testable m (te
   signal-none a b = tested none (rw (ne-eqb _ _ a, ne-eqb _ _ b)) refl refl
 
 -- ---- the answer
-pub refusal : (st : Stage) {m k : ℕ} → st ≡ Refused m k → refused m k ≡ answered (checkOf st) (done 0)
-refusal st e = rw e
-
 pub test-ready : (s P : List ℕ) {name : ℕ} {m : Machine} → badProgram s P ≡ false → Running s name P (byte P 0) m → Testable m (testOf P)
 test-ready s P g h =
     let z = good s P g in
@@ -139,7 +136,7 @@ test-ready s P g h =
     record { sound = h .holds .sound; first = rw (h .used) a; second = rw (h .used) b; room = omega (arith, h .few, z .few) }
 
 module _ (s P : List ℕ) (name : ℕ) {st : Stage} (e : checkOf st ≡ checks1to5 s) where
-  pub run-stopped : {m k : ℕ} (r : Outcome) → st ≡ Refused m k → answerOf r ≡ answered (checkOf st) (done 0) → answerOf r ≡ runAnswer s name P
+  pub run-stopped : {m k : ℕ} (r : Answer) → st ≡ Refused m k → answerOf r ≡ answered (checkOf st) (done 0) → answerOf r ≡ runAnswer s name P
   unfolding runAnswer
   run-stopped r p h = h ∙ rw (← e, p)
 

@@ -12,8 +12,8 @@ use Rattle.term.specs.Term.{symmetric, asymmetric, left, right, Term}
 use Rattle.term.specs.Term as words
 use Rattle.term.specs.Table.{Rec, leaf, branch, decoded, void, message, Below, Table}
 use Rattle.term.specs.Rule.{rules, headOf, ruleOf}
-use Rattle.submission.specs.Answer.{Answer, done, refused, passes}
-use Rattle.submission.specs.Contents.{Bytes}
+use Rattle.base.specs.Answer.{passes}
+use Rattle.base.specs.Bytes.{Bytes}
 use Rattle.submission.specs.Record.{kindOf, terms, entries, entryAt, atomic, shapeOf, term}
 use Rattle.submission.specs.Check.{checks1to5}
 use Rattle.machine.specs.declared.Instruction.{Instruction as InstructionRead}
@@ -27,21 +27,15 @@ use Rattle.machine.specs.declared.Cipher.{Cipher}
 use Rattle.machine.specs.declared.Cipher.the-variants.{Symmetric, Asymmetric}
 use Rattle.machine.specs.declared.Side.{Side}
 use Rattle.machine.specs.declared.Side.the-variants.{Left, Right}
-use Rattle.machine.specs.declared.Outcome.{Outcome}
-use Rattle.machine.specs.declared.Outcome.the-variants.{Signal, Refused}
 use Rattle.machine.specs.Program.{Instruction, Test, operand}
 use Rattle.machine.specs.Run.{atomKind, initial, registers}
 
--- ---- a program's parts, the answer, and small enums
+-- ---- a program's parts, and small enums
 abbrev pub instructionOf : InstructionRead → Instruction
 instructionOf i = record { rule = i .rule; first = i .first; second = i .second }
 
 abbrev pub testIn : TestRead → Test
 testIn t = record { letter = t .letter; first = t .first; second = t .second }
-
-abbrev pub answerOf : Outcome → Answer
-answerOf (Signal n) = done n
-answerOf (Refused number place) = refused number place
 
 abbrev pub cipherOf : Cipher → words.Cipher
 cipherOf Symmetric = symmetric

@@ -7,8 +7,8 @@ use lib.Dec.{eqb, ltb}
 use lib.ListN.{length}
 use Rattle.base.specs.First.{any}
 use Rattle.term.specs.Rule.{isRule, hasOne}
-use Rattle.submission.specs.Answer.{Check, failsIf}
-use Rattle.submission.specs.Contents.{byte}
+use Rattle.base.specs.Answer.{Check, failsIf}
+use Rattle.base.specs.Bytes.{byte}
 use Rattle.submission.specs.Record.{entries}
 
 -- "per step the rule number and two registers"

@@ -9,8 +9,8 @@ use Rattle.term.specs.Term.{Kind, plain, asymmetric, Term, atom, term?, test}
 use Rattle.term.specs.Table.{void}
 use Rattle.term.specs.Reduce.{op, match?}
 use Rattle.term.specs.Rule.{headOf}
-use Rattle.submission.specs.Answer.{Answer, done, andThen, answered}
-use Rattle.submission.specs.Contents.{byte}
+use Rattle.base.specs.Answer.{Answer, done, andThen, answered}
+use Rattle.base.specs.Bytes.{byte}
 use Rattle.submission.specs.Record.{entries, entryAt, guess, kindAt, Shape, atomic, compound, shapeOf, term}
 use Rattle.submission.specs.Check.{checks1to5}
 use Rattle.machine.specs.Program.{Instruction, Test, Relation, equal, inverse, relationOf, instructionAt, testOf, operand, check13}

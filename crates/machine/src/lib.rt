@@ -2,7 +2,8 @@
 // Promises: every function is total, for all bytes, and its answer is what the definitions of specs/ give.
 // Cost, for T terms and N instructions: terms are held shared, so an instruction adds at most one node, however large its term is as a
 // tree, after one look through at most T + 1 + N nodes.
-use submission::Stage;
+use base::Answer;
+use base::Stage;
 ghost use mathlib.Core.Path.{_≡_};
 ghost use mathlib.Core.Bool.{false, cond};
 ghost use mathlib.Core.List.{[]};
@@ -11,13 +12,12 @@ ghost use Rattle.base.specs.First.{first, any};
 ghost use Rattle.term.specs.Term.{part, node as term, test};
 ghost use Rattle.term.specs.Reduce.{match?, pick, paired as pairedTerm, parted as partedTerm, cancelled as cancelledTerm};
 ghost use Rattle.term.specs.Rule.{rules, headOf};
-ghost use Rattle.submission.specs.Answer.{done, answered};
-ghost use Rattle.submission.specs.Stage.{checkOf};
-ghost use Rattle.submission.specs.Contents.{byte as byteAt};
+ghost use Rattle.base.specs.Code.{answerOf};
+ghost use Rattle.base.specs.Bytes.{byte as byteAt};
 ghost use Rattle.submission.specs.Record.{terms as termCount, entries as entryCount, recordAt};
 ghost use Rattle.machine.specs.Program.{instructionAt, operand, testOf, badInstruction, badTest, badProgram};
 ghost use Rattle.machine.specs.Run.{executed as executedTerm, signals, runAnswer};
-ghost use Rattle.machine.specs.Code.{instructionOf, testIn, cipherOf, sideOf, answerOf, nodeFor, nodeIn, sameNode, partsOfOne, inverseNodes, isNode, foundOf, termAt, values, Sound, Executable, Fit, Has, Ready, Stored, Gives, Read, knowledge, Loaded, Started, Running, Testable};
+ghost use Rattle.machine.specs.Code.{instructionOf, testIn, cipherOf, sideOf, nodeFor, nodeIn, sameNode, partsOfOne, inverseNodes, isNode, foundOf, termAt, values, Sound, Executable, Fit, Has, Ready, Stored, Gives, Read, knowledge, Loaded, Started, Running, Testable};
 
 // ---- Programs, and check 13.
 
@@ -54,11 +54,11 @@ pub struct Test {
 pub fn instruction_at(program: &[u8], i: u8) -> Instruction
     ensures { λ r. ⌜ instructionOf r ≡ instructionAt (now (program .entry)) i ⌝ }
 {
-    let at = 3 * submission::wide(i);
+    let at = 3 * base::wide(i);
     Instruction {
-        rule: submission::byte(program, at + 1),
-        first: submission::byte(program, at + 2),
-        second: submission::byte(program, at + 3),
+        rule: base::byte(program, at + 1),
+        first: base::byte(program, at + 2),
+        second: base::byte(program, at + 3),
     }
 }
 
@@ -66,11 +66,11 @@ pub fn instruction_at(program: &[u8], i: u8) -> Instruction
 pub fn test_of(program: &[u8]) -> Test
     ensures { λ r. ⌜ testIn r ≡ testOf (now (program .entry)) ⌝ }
 {
-    let at = 3 * submission::wide(submission::byte(program, 0));
+    let at = 3 * base::wide(base::byte(program, 0));
     Test {
-        letter: submission::byte(program, at + 1),
-        first: submission::byte(program, at + 2),
-        second: submission::byte(program, at + 3),
+        letter: base::byte(program, at + 1),
+        first: base::byte(program, at + 2),
+        second: base::byte(program, at + 3),
     }
 }
 
@@ -81,23 +81,23 @@ fn is_instruction_bad(i: Instruction, written: usize) -> bool
     if DECA < i.rule {
         return true;
     }
-    if written <= submission::wide(i.first) {
+    if written <= base::wide(i.first) {
         return true;
     }
     if submission::has_one(i.rule) {
         return i.second != 0;
     }
-    written <= submission::wide(i.second)
+    written <= base::wide(i.second)
 }
 
 // Whether the test is bad, with the first `written` registers written.
 fn is_test_bad(t: Test, written: usize) -> bool
     ensures { λ r. ⌜ r ≡ badTest written (testIn t) ⌝ }
 {
-    if written <= submission::wide(t.first) {
+    if written <= base::wide(t.first) {
         return true;
     }
-    if written <= submission::wide(t.second) {
+    if written <= base::wide(t.second) {
         return true;
     }
     if t.letter == b'=' {
@@ -110,9 +110,9 @@ fn is_test_bad(t: Test, written: usize) -> bool
 fn has_bad_instruction(program: &[u8], known: u8) -> bool
     ensures { λ r. ⌜ r ≡ any (λ i. badInstruction (known + 1 + i) (instructionAt (now (program .entry)) i)) (byteAt (now (program .entry)) 0) ⌝ }
 {
-    let n = submission::byte(program, 0);
+    let n = base::byte(program, 0);
     for i in 0..n {
-        let written = submission::wide(known) + 1 + submission::wide(i);
+        let written = base::wide(known) + 1 + base::wide(i);
         if is_instruction_bad(instruction_at(program, i), written) {
             return true;
         }
@@ -127,21 +127,18 @@ fn is_program_bad(s: &[u8], program: &[u8]) -> bool
     if program.len() == 0 {
         return true;
     }
-    let n = submission::byte(program, 0);
+    let n = base::byte(program, 0);
     if 128 < n {
         return true;
     }
-    if program.len() != 3 * submission::wide(n) + 4 {
+    if program.len() != 3 * base::wide(n) + 4 {
         return true;
     }
     let known = submission::entries(s);
     if has_bad_instruction(program, known) {
         return true;
     }
-    is_test_bad(
-        test_of(program),
-        submission::wide(known) + 1 + submission::wide(n),
-    )
+    is_test_bad(test_of(program), base::wide(known) + 1 + base::wide(n))
 }
 
 // ---- Terms as nodes.
@@ -192,12 +189,6 @@ pub enum Cipher {
 pub enum Side {
     Left,
     Right,
-}
-
-// The signal, 1 or 0; or the refusal's number and place.
-pub enum Outcome {
-    Signal(u8),
-    Refused { number: u8, place: u16 },
 }
 
 fn index(n: u16) -> usize
@@ -416,8 +407,8 @@ impl Machine {
         requires { ⌜ Executable self (instructionOf i) ⌝ }
         ensures { λ r. ⌜ Gives self (executedTerm (values self) (instructionOf i)) r ⌝ }
     {
-        let p = submission::wide(i.first);
-        let q = submission::wide(operand_of(i));
+        let p = base::wide(i.first);
+        let q = base::wide(operand_of(i));
         let a = self.registers[p];
         let b = self.registers[q];
         let rule = i.rule;
@@ -457,8 +448,8 @@ fn node_of(s: &[u8], t: u8) -> Node
 {
     let term = submission::term_at(s, t);
     let kind = term.kind;
-    let x = submission::wide16(term.x);
-    let y = submission::wide16(term.y);
+    let x = base::wide16(term.x);
+    let y = base::wide16(term.y);
     match kind {
         4 => Node {
             head: PAIR,
@@ -492,12 +483,12 @@ fn with_terms(s: &[u8]) -> Machine
     let n = submission::terms(s);
     for t in 0..n {
         let v = node_of(s, t);
-        let k = submission::wide(t);
+        let k = base::wide(t);
         m.heads[k] = v.head;
         m.lefts[k] = v.left;
         m.rights[k] = v.right;
     }
-    m.nodes = submission::wide16(n);
+    m.nodes = base::wide16(n);
     m
 }
 
@@ -509,7 +500,7 @@ fn with_knowledge(s: &[u8]) -> Machine
     let mut m = with_terms(s);
     let n = submission::entries(s);
     for i in 0..n {
-        m = m.with_register(submission::wide16(submission::entry_at(s, i)));
+        m = m.with_register(base::wide16(submission::entry_at(s, i)));
     }
     m
 }
@@ -538,27 +529,27 @@ fn executed(s: &[u8], name: u16, program: &[u8]) -> Machine
     ensures { λ r. ⌜ Running (now (s .entry)) name (now (program .entry)) (byteAt (now (program .entry)) 0) r ⌝ }
 {
     let mut m = initial(s, name);
-    let n = submission::byte(program, 0);
+    let n = base::byte(program, 0);
     for i in 0..n {
         m = m.step(instruction_at(program, i));
     }
     m
 }
 
-fn bit(b: bool) -> u8
+fn bit(b: bool) -> u16
     ensures { λ r. ⌜ r ≡ cond b 1 0 ⌝ }
 {
     if b { 1 } else { 0 }
 }
 
 // The signal of the program's test.
-fn signal(program: &[u8], m: Machine) -> u8
+fn signal(program: &[u8], m: Machine) -> u16
     requires { ⌜ Testable m (testOf (now program)) ⌝ }
     ensures { λ r. ⌜ r ≡ cond (signals (values m) (testOf (now (program .entry)))) 1 0 ⌝ }
 {
     let t = test_of(program);
-    let p = submission::wide(t.first);
-    let q = submission::wide(t.second);
+    let p = base::wide(t.first);
+    let q = base::wide(t.second);
     let a = m.registers[p];
     let b = m.registers[q];
     if t.letter == b'=' {
@@ -570,30 +561,20 @@ fn signal(program: &[u8], m: Machine) -> u8
     0
 }
 
-// A stage's refusal as the outcome.
-fn refused(stage: Stage) -> Outcome
-    ensures { λ r. ⌜ answerOf r ≡ answered (checkOf stage) (done 0) ⌝ }
-{
-    match stage {
-        Stage::Passed => Outcome::Signal(0),
-        Stage::Refused { number, place } => Outcome::Refused { number, place },
-    }
-}
-
 // The signal of a program on a submission, with a name for the guess; or the refusal of the first of checks 1 to 5 and 13 that fails.
-pub fn run(s: &[u8], name: u16, program: &[u8]) -> Outcome
+pub fn run(s: &[u8], name: u16, program: &[u8]) -> Answer
     ensures { λ r. ⌜ answerOf r ≡ runAnswer (now (s .entry)) name (now (program .entry)) ⌝ }
 {
     let reading = submission::check_reading(s);
     let Stage::Passed = reading else {
-        return refused(reading);
+        return base::answered_by(reading, 0);
     };
     if is_program_bad(s, program) {
-        return Outcome::Refused {
+        return Answer::Refused {
             number: 13,
             place: 0,
         };
     }
     let m = executed(s, name, program);
-    Outcome::Signal(signal(program, m))
+    Answer::Done(signal(program, m))
 }

@@ -17,8 +17,8 @@ fn print_all(bundle: &[u8]) {
         if bundle.len() < start {
             return;
         }
-        let high = submission::wide(submission::byte(bundle, at));
-        let length = high * 256 + submission::wide(submission::byte(bundle, at + 1));
+        let high = base::wide(base::byte(bundle, at));
+        let length = high * 256 + base::wide(base::byte(bundle, at + 1));
         let rest = bundle.len() - start;
         if rest < length {
             return;

@@ -9,7 +9,7 @@ use Rattle.submission.specs.declared.Term.{Term}
 use Rattle.submission.specs.declared.Claim.{Claim}
 use Rattle.submission.specs.Record.{terms, steps, kindAt, guess, wayAt, shapeOf, isAtomic}
 use Rattle.submission.specs.Claim.{wayOf, companionFits}
-use Rattle.submission.specs.Stage.{IsTerm, IsClaim}
+use Rattle.submission.specs.Code.{IsTerm, IsClaim}
 
 module _ {s : List ℕ} {c : Claim} (p : IsClaim s c) where
   pub way-a : {n : ℕ} → c .way ≡ 0x61 → n ≡ steps s → ltb (c .companion) n ≡ companionFits s (wayOf (wayAt s))

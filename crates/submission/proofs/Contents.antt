@@ -6,7 +6,8 @@ use Prim.Native.Nat.{ℕ, _*_, _<_, _≤_}
 use borrow.Author.Tests.{eq-eqb, ne-eqb, lt-ltb, le-ltb}
 use mathlib.Core.Option.{none, some}
 use Rattle.base.specs.First.{any, first, firstFrom, isSome}
-use Rattle.submission.specs.Contents.{byte, letter, count, wrongLetter, least, most, badCount}
+use Rattle.base.specs.Bytes.{byte}
+use Rattle.submission.specs.Contents.{letter, count, wrongLetter, least, most, badCount}
 
 module _ (s : List ℕ) (i : ℕ) {r : ℕ} where
   pub letter-wrong : r ≡ byte s (4 * i) → (r ≡ letter i → ⊥) → wrongLetter s i ≡ true

@@ -3,7 +3,7 @@ use mathlib.Core.Path.{_≡_, refl}
 use mathlib.Core.List.{List, [], _∷_, map}
 use Prim.Native.Nat.{ℕ}
 use Rattle.base.specs.First.{first, firstFrom}
-use Rattle.submission.specs.Answer.{Check, passes, fails}
+use Rattle.base.specs.Answer.{Check, passes, fails}
 use Rattle.submission.specs.Contents.{check2}
 
 -- the four counts, in the contents' places, and what check 2 says

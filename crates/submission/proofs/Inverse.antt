@@ -7,7 +7,7 @@ use lib.Dec.{eqb}
 use borrow.Author.Tests.{eq-eqb, ne-eqb}
 use Rattle.submission.specs.declared.Term.{Term}
 use Rattle.submission.specs.Record.{areInverse}
-use Rattle.submission.specs.Stage.{IsTerm}
+use Rattle.submission.specs.Code.{IsTerm}
 
 module _ {s : List ℕ} {i j : ℕ} {a b : Term} (p : IsTerm s i a) (q : IsTerm s j b) where
   pub other-x : (a .x ≡ b .x → ⊥) → false ≡ areInverse s i j

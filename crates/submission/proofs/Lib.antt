@@ -1,4 +1,3 @@
-pub mod Answer
 pub mod Claims
 pub mod Contents
 pub mod Examples
@@ -7,4 +6,3 @@ pub mod Listed
 pub mod Passing
 pub mod Records
 pub mod Shape
-pub mod Stages

@@ -14,12 +14,13 @@ use Rattle.base.proofs.Says.{Says, says-true, says-eqb, says-ltb, says-and, say
 use Rattle.term.specs.Term.{Kind, plain, public, private, otherKind, symmetric, asymmetric, Head, pair, part, encrypt, decrypt, Term, atom, node, isKey, inverse, Match, Keyed, builds, Message}
 use Rattle.term.specs.Table.{branch, message, Below, Table}
 use Rattle.term.proofs.Table.{decode-inj, decoded-reads}
-use Rattle.submission.specs.Answer.{passes}
-use Rattle.submission.specs.Contents.{Bytes, badCount, check1, check2}
+use Rattle.base.specs.Answer.{passes}
+use Rattle.base.specs.Bytes.{Bytes}
+use Rattle.submission.specs.Contents.{badCount, check1, check2}
 use Rattle.submission.specs.Record.{terms, entries, steps, kindAt, xAt, yAt, nameAt, entryAt, guess, verifying, wayAt, companion, Shape, atomic, compound, shapeOf, kindOf, takes, isAtomic, recordOf, recordAt, term, inverseKinds, areInverse}
 use Rattle.submission.specs.Claim.{Way, another-step, at-start, inverse-key, wayOf, companionFits}
 use Rattle.submission.specs.Check.{badTerm, check3, badKnowledge, check4, goodClaim, check5, checks1to4, checks1to5}
-use Rattle.submission.proofs.Answer.{if-passes, at-passes, then-passes}
+use Rattle.base.proofs.AnswerLaws.{if-passes, at-passes, then-passes}
 use Rattle.submission.proofs.Shape.{shape-kind, Listable, kind-shape, Shaped, Good, good, name-bytes, same-record}
 
 -- the kinds of keys, and those of a key and its inverse

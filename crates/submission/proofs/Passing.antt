@@ -1,28 +1,17 @@
 -- What a caller learns of a submission from a stage that passed.
-use mathlib.Core.Path.{_≡_, sym, _∙_, ap}
+use mathlib.Core.Path.{_≡_}
 use mathlib.Core.Bool.{false}
 use mathlib.Core.List.{List}
 use Prim.Native.Nat.{ℕ, _≤_}
 use native.Mathlib.Omega.{arith}
 use lib.Dec.{ltb}
 use borrow.Author.Tests.{ltb-false}
-use mir.Syntax.{w8}
-use mir.Val.{Fits}
 use Rattle.base.proofs.Says.{or-false, none-fails}
-use Rattle.submission.specs.declared.Stage.{Stage}
-use Rattle.submission.specs.declared.Stage.the-variants.{Passed}
-use Rattle.submission.specs.Answer.{Check, passes}
-use Rattle.submission.specs.Contents.{byte, Bytes, count, least, most, badCount, check1, check2, Limited}
+use Rattle.base.specs.Answer.{passes}
+use Rattle.submission.specs.Contents.{count, least, most, badCount, check1, check2, Limited}
 use Rattle.submission.specs.Check.{check5, checks1to4, checks1to5}
-use Rattle.submission.specs.Stage.{checkOf}
-use Rattle.submission.proofs.Answer.{at-passes, then-passes}
-
--- the elements of a slice are bytes: of a function with the parameter `s: &[u8]`, `c .. .shared-slice-known .given` is the premise
-pub bytes : (s : List ℕ) → ((i : ℕ) → Fits w8 (byte s i)) → Bytes s
-bytes s f i = f i .fits
-
-pub stage-passes : (d : Check) {r : Stage} → checkOf r ≡ d → r ≡ Passed → d ≡ passes
-stage-passes d e h = sym e ∙ ap checkOf h
+use Rattle.base.proofs.StageLaws.{bytes, stage-passes}
+use Rattle.base.proofs.AnswerLaws.{at-passes, then-passes}
 
 pub body-passes : (s : List ℕ) → checks1to5 s ≡ passes → checks1to4 s ≡ passes
 unfolding checks1to5

@@ -14,7 +14,7 @@ use Rattle.term.specs.Term.{plain, public, private, pair, encrypt, symmetric, a
 use Rattle.submission.specs.declared.Term.{Term}
 use Rattle.submission.specs.Record.{terms, kindAt, xAt, yAt, Shape, atomic, compound, shapeOf, isAtomic}
 use Rattle.submission.specs.Check.{shapeFits, sameRecord}
-use Rattle.submission.specs.Stage.{IsTerm, LastBytes}
+use Rattle.submission.specs.Code.{IsTerm, LastBytes}
 
 -- ---- kinds
 -- "an atom": kinds 1 to 3

@@ -5,7 +5,7 @@ use mathlib.Core.Option.{Option, none, some}
 use Prim.Native.Nat.{ℕ}
 use lib.Dec.{eqb, ltb}
 use Rattle.base.specs.First.{first, any}
-use Rattle.submission.specs.Answer.{Check, failsAt, failsIf, andThen}
+use Rattle.base.specs.Answer.{Check, failsAt, failsIf, andThen}
 use Rattle.submission.specs.Contents.{check1, check2}
 use Rattle.submission.specs.Record.{terms, entries, steps, kindAt, xAt, yAt, entryAt, guess, verifying, wayAt, Shape, atomic, compound, shapeOf, takes, isAtomic}
 use Rattle.submission.specs.Claim.{wayOf, companionFits}

@@ -5,19 +5,8 @@ use Prim.Native.Nat.{ℕ, zero, suc, _+_, _*_, _≤_, _<_}
 use lib.Dec.{eqb, ltb}
 use lib.ListN.{length, getD}
 use Rattle.base.specs.First.{first, any}
-use Rattle.submission.specs.Answer.{Check, failsAt, failsIf}
-
--- the byte at i, and 0 past the end
-abbrev pub byte : List ℕ → ℕ → ℕ
-byte s i = getD s i 0
-
--- "two-byte .. (high byte first)"
-abbrev pub word : List ℕ → ℕ → ℕ
-word s i = byte s i * 256 + byte s (i + 1)
-
--- a list of bytes
-abbrev pub Bytes : List ℕ → Type 0
-Bytes s = (i : ℕ) → byte s i < 256
+use Rattle.base.specs.Bytes.{byte, word}
+use Rattle.base.specs.Answer.{Check, failsAt, failsIf}
 
 -- "four entries of 4 bytes: a letter, a one-byte count, a two-byte start"; entries 0 to 3
 -- "The letters, in order, are T terms, K knowledge, D derivation, V claim."

@@ -8,7 +8,8 @@ use lib.Dec.{eqb}
 use lib.ListN.{getD}
 use Rattle.term.specs.Term.{Kind, plain, public, private, symmetric, asymmetric, Head, pair, part, encrypt, decrypt, Term}
 use Rattle.term.specs.Table.{Rec, leaf, branch, decoded, void}
-use Rattle.submission.specs.Contents.{byte, count, start}
+use Rattle.base.specs.Bytes.{byte}
+use Rattle.submission.specs.Contents.{count, start}
 
 -- "Call the counts of K and D also K and N": the counts of terms, of knowledge entries and of steps
 abbrev pub terms : List ℕ → ℕ

@@ -1,50 +1,23 @@
 // A submission's bytes as records, and checks 1 to 5.
 // Promises: every function is total, for all bytes, and its answer is what the definitions of specs/ give.
+use base::Stage;
+use base::byte;
+use base::wide;
+use base::wide16;
+use base::word;
 ghost use mathlib.Core.Path.{_≡_};
 ghost use mathlib.Core.Bool.{_&&_, _||_};
 ghost use Prim.Native.Nat.{_<_};
 ghost use lib.Dec.{eqb};
 ghost use Rattle.base.specs.First.{any};
 ghost use Rattle.term.specs.Rule.{hasOne};
-ghost use Rattle.submission.specs.Contents.{byte as byteAt, word as wordAt, wrongLetter, wrongStart, badContents, check1, check2};
+ghost use Rattle.base.specs.Bytes.{byte as byteAt, word as wordAt};
+ghost use Rattle.submission.specs.Contents.{wrongLetter, wrongStart, badContents, check1, check2};
 ghost use Rattle.submission.specs.Record.{terms as termCount, entries as entryCount, steps as stepCount, kindAt, xAt, yAt, entryAt, wayAt, shapeOf, isAtomic, areInverse};
 ghost use Rattle.submission.specs.Claim.{wayOf, companionFits};
 ghost use Rattle.submission.specs.Check.{shapeFits, sameRecord, badTerm, badKnowledge, goodClaim, check3, check4, check5, checks1to4, checks1to5};
-ghost use Rattle.submission.specs.Stage.{checkOf, Starts, IsTerm, IsClaim, LastBytes};
-
-// What a check answers: go on, or the refusal's number and place.
-pub enum Stage {
-    Passed,
-    Refused { number: u8, place: u16 },
-}
-
-pub fn wide(x: u8) -> usize
-    ensures { λ r. ⌜ r ≡ x ⌝ }
-{
-    x as usize
-}
-
-// A place or a count as the answers carry it.
-pub fn wide16(x: u8) -> u16
-    ensures { λ r. ⌜ r ≡ x ⌝ }
-{
-    x as u16
-}
-
-// The byte at i, or 0 past the end.
-pub fn byte(s: &[u8], i: usize) -> u8
-    ensures { λ r. ⌜ r ≡ byteAt (now (s .entry)) i ⌝ }
-{
-    if i < s.len() { s[i] } else { 0 }
-}
-
-// Two bytes from i on, high byte first.
-fn word(s: &[u8], i: usize) -> usize
-    requires { ⌜ i < 65536 ⌝ }
-    ensures { λ r. ⌜ r ≡ wordAt (now (s .entry)) i ⌝ }
-{
-    wide(byte(s, i)) * 256 + wide(byte(s, i + 1))
-}
+ghost use Rattle.base.specs.Code.{checkOf};
+ghost use Rattle.submission.specs.Code.{Starts, IsTerm, IsClaim, LastBytes};
 
 pub fn terms(s: &[u8]) -> u8
     ensures { λ r. ⌜ r ≡ termCount (now (s .entry)) ⌝ }

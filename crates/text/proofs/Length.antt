@@ -11,8 +11,8 @@ use lib.Dec.{eqb, lit≤}
 use lib.ListN.{length, take, length-append}
 use Rattle.base.proofs.Order.{lt-or-ge}
 use Rattle.term.specs.Rule.{wordOf, hasOne}
-use Rattle.submission.specs.Answer.{done}
-use Rattle.submission.specs.Contents.{byte, Bytes}
+use Rattle.base.specs.Answer.{done}
+use Rattle.base.specs.Bytes.{byte, Bytes}
 use Rattle.machine.specs.Program.{Instruction, Test, Relation, equal, inverse, relationOf, instructionAt, testOf}
 use Rattle.text.specs.Text.{digits, registerText, secondText, stepLine, stepLines, relationWord, testLine, refusedText, answerText}
 use Rattle.text.specs.Puts.{Puts}

@@ -7,7 +7,7 @@ use native.Mathlib.Nat.{le-antisymm}
 use native.Mathlib.Numerals.{add-one}
 use borrow.Author.Tests.{ne-eqb}
 use Rattle.term.specs.Rule.{wordOf, hasOne}
-use Rattle.submission.specs.Answer.{done}
+use Rattle.base.specs.Answer.{done}
 use Rattle.machine.specs.Program.{Instruction, Test, instructionAt, testOf, relationOf}
 use Rattle.machine.specs.declared.Instruction.{Instruction as InstructionRead}
 use Rattle.machine.specs.declared.Test.{Test as TestRead}

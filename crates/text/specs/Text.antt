@@ -5,7 +5,7 @@ use mathlib.Core.Option.{Option, none, some}
 use Prim.Native.Nat.{ℕ, zero, suc, _+_, _/_, _%_}
 use lib.Dec.{ltb}
 use Rattle.term.specs.Rule.{wordOf, hasOne}
-use Rattle.submission.specs.Answer.{Answer, done, refused}
+use Rattle.base.specs.Answer.{Answer, done, refused}
 use Rattle.machine.specs.Program.{Instruction, Test, Relation, equal, inverse, relationOf, instructionAt, testOf}
 
 -- a number in decimal, in ASCII; a number has fewer digits than itself and one

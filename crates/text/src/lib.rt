@@ -1,12 +1,12 @@
 // The text that the program `verdict` prints, written into a buffer that the caller lends.
 // Promises: every function is total. What it writes is the text that a definition of specs/ gives, as far as the buffer reaches,
 // no other byte changes, and the result is the place reached (`Puts`).
-use submission::wide16;
+use base::wide16;
 ghost use mathlib.Core.Path.{_≡_};
 ghost use mathlib.Core.List.{[], _∷_};
 ghost use Prim.Native.Nat.{_+_, _<_};
 ghost use Rattle.term.specs.Rule.{wordOf};
-ghost use Rattle.submission.specs.Answer.{done};
+ghost use Rattle.base.specs.Answer.{done};
 ghost use Rattle.machine.specs.Program.{instructionAt, testOf, relationOf};
 ghost use Rattle.text.specs.Text.{decimal, registerText, secondText, stepLine, stepLines, relationWord, testLine, answerText, refusedText};
 ghost use Rattle.text.specs.Puts.{Puts};

@@ -1,4 +1,4 @@
-use Rattle.submission.proofs.Passing.{bytes}
+use Rattle.base.proofs.StageLaws.{bytes}
 use Rattle.checker.proofs.Printing.{printed-accepted, printed-refused}
 use borrow.Author.Needs.{needs}
 use Rattle.checker.proofs.write_text.Statement.{statement}

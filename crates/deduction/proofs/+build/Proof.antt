@@ -7,7 +7,7 @@ use Rattle.deduction.proofs.build.Reads as build
 use Rattle.deduction.proofs.build.Kinds as build-kinds
 use Rattle.deduction.proofs.+build.Lts-build as build-lts
 use Rattle.submission.proofs.term_at.Reads as term-at-reads
-use Rattle.submission.proofs.wide.Reads as wide-reads
+use Rattle.base.proofs.wide.Reads as wide-reads
 use Rattle.deduction.proofs.+build.{statement}
 use Rattle.deduction.proofs.+build.Tie.{close}
 

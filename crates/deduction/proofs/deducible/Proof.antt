@@ -1,5 +1,5 @@
 use native.Mathlib.Omega.{arith}
-use Rattle.submission.proofs.Passing.{bytes}
+use Rattle.base.proofs.StageLaws.{bytes}
 use Rattle.deduction.proofs.Answering.{read, check-refused, no-term, answer-yes, answer-no}
 use borrow.Author.Needs.{needs}
 use Rattle.deduction.proofs.deducible.Statement.{statement}
@@ -14,8 +14,8 @@ enum-told c = search needs
 enum-told-2 : tie.Need-enum-told-2
 enum-told-2 c = search needs
 
-refused-requires : tie.Need-refused-requires
-refused-requires c κs = search needs
+answered-by-requires : tie.Need-answered-by-requires
+answered-by-requires c κs = search needs
 
 returns : tie.Need-returns
 returns c = search (check-refused, needs)
@@ -42,7 +42,7 @@ deducible-spec =
     check-body-requires
     enum-told
     enum-told-2
-    refused-requires
+    answered-by-requires
     returns
     terms-requires
     returns-2

@@ -1,5 +1,5 @@
 -- `run` answers what checks 1 to 5, check 13 and the machine give.
-use Rattle.submission.proofs.Passing.{bytes}
+use Rattle.base.proofs.StageLaws.{bytes}
 use Rattle.machine.proofs.Runs.{read, test-ready, run-stopped, run-refused, run-signals}
 use Rattle.base.proofs.Bools.{flag}
 use borrow.Author.Needs.{needs}
@@ -15,8 +15,8 @@ enum-told c = search needs
 enum-told-2 : tie.Need-enum-told-2
 enum-told-2 c = search needs
 
-refused-requires : tie.Need-refused-requires
-refused-requires c κs = search needs
+answered-by-requires : tie.Need-answered-by-requires
+answered-by-requires c κs = search needs
 
 returns : tie.Need-returns
 returns c = search (run-stopped, needs)
@@ -43,7 +43,7 @@ run-spec =
     check-reading-requires
     enum-told
     enum-told-2
-    refused-requires
+    answered-by-requires
     returns
     is-program-bad-requires
     returns-2

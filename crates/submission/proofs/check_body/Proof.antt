@@ -1,5 +1,5 @@
 -- `check_body` meets its contract: a check that refuses stops the later ones.
-use Rattle.submission.proofs.Stages.{stopped, went-on}
+use Rattle.base.proofs.StageLaws.{stopped, went-on}
 use Rattle.submission.specs.Check.{checks1to4}
 use borrow.Author.Needs.{needs}
 use Rattle.submission.proofs.check_body.Statement.{statement}

@@ -1,6 +1,6 @@
 -- `check_claim` meets its contract: the test's outcome is check 5.
 use Rattle.base.proofs.Bools.{flag, not-of-true, not-of-false}
-use Rattle.submission.proofs.Stages.{fails-if, passes-if}
+use Rattle.base.proofs.StageLaws.{fails-if, passes-if}
 use borrow.Author.Needs.{needs}
 use Rattle.submission.proofs.check_claim.Statement.{statement}
 use Rattle.submission.proofs.check_claim.Tie as tie

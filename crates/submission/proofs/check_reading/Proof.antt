@@ -1,5 +1,5 @@
 -- `check_reading` meets its contract: checks 1 to 4, then check 5.
-use Rattle.submission.proofs.Stages.{stopped, went-on}
+use Rattle.base.proofs.StageLaws.{stopped, went-on}
 use Rattle.submission.specs.Check.{checks1to5}
 use borrow.Author.Needs.{needs}
 use Rattle.submission.proofs.check_reading.Statement.{statement}

@@ -2,7 +2,7 @@
 use Prim.Native.Nat.{_-_}
 use Rattle.base.proofs.Scan.{scan}
 use Rattle.base.proofs.First.{Passed}
-use Rattle.submission.proofs.Stages.{fails-hit, passes-all}
+use Rattle.base.proofs.StageLaws.{fails-hit, passes-all}
 use Rattle.submission.specs.Check.{badTerm}
 use Rattle.submission.proofs.check_terms.Statement.{statement}
 use Rattle.submission.proofs.check_terms.Tie as tie

@@ -3,7 +3,7 @@ use Prim.Native.Nat.{ℕ, _-_, _<_}
 use native.Mathlib.Omega.{arith}
 use lib.ListN.{length-replicate}
 use borrow.Author.Needs.{needs}
-use Rattle.submission.specs.Stage.{LastBytes}
+use Rattle.submission.specs.Code.{LastBytes}
 use Rattle.submission.proofs.Records.{lasts-none, lasts-more, lasts-all}
 use Rattle.submission.proofs.last_bytes.Statement.{statement}
 use Rattle.submission.proofs.last_bytes.Tie as tie

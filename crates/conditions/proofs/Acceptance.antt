@@ -1,0 +1,93 @@
+-- Checking accepts exactly the well-formed submissions that meet the five conditions and have page enough, and the acceptance carries N.
+use mathlib.Core.Path.{_≡_, sym}
+use mathlib.Core.Logic.{_↔_, Iff·trans}
+use mathlib.Core.Bool.{true, false}
+use mathlib.Core.List.{List}
+use Prim.Native.Nat.{ℕ, _<_, _≤_}
+use borrow.Author.Tests.{ltb-false, le-ltb}
+use Rattle.base.proofs.Says.{not-not-false, none-fails}
+use Rattle.base.specs.Answer.{done, passes, andThen}
+use Rattle.base.specs.Bytes.{Bytes}
+use Rattle.submission.specs.Record.{steps, wayAt}
+use Rattle.submission.specs.Claim.{wayOf}
+use Rattle.submission.specs.Check.{checks1to5}
+use Rattle.base.proofs.AnswerLaws.{if-passes, at-passes, then-passes, answered-done}
+use Rattle.submission.proofs.Listed.{Claimed, claimed}
+use Rattle.derivation.specs.Step.{unfounded, checkSteps}
+use Rattle.derivation.proofs.Founded.{Sound, sound, steps-pass}
+use Rattle.machine.specs.Program.{programLength}
+use Rattle.conditions.specs.Check.{reachable, check8, hasSecondWay, check9, undone, check10, check11, checks1to10, checkAnswer}
+use Rattle.conditions.specs.Condition.{WellFormed, FiveConditions}
+use Rattle.conditions.proofs.AcceptanceConditions.{founded-terms, reachable-iff, second-way-iff, undone-iff}
+
+-- what the checks after the fifth say of term numbers, where all pass
+record Clear (s : List ℕ) : Type 0 where
+  founded : (i : ℕ) → i < steps s → unfounded s i ≡ false
+  hidden : reachable s ≡ false
+  secondWay : hasSecondWay s (wayOf (wayAt s)) ≡ true
+  kept : (i : ℕ) → i < steps s → undone s i ≡ false
+
+pass-8-to-10 : (s : List ℕ) → (andThen (check8 s) (andThen (check9 s) (check10 s)) ≡ passes) ↔
+    ((reachable s ≡ false) × (hasSecondWay s (wayOf (wayAt s)) ≡ true) × ((i : ℕ) → i < steps s → undone s i ≡ false))
+pass-8-to-10 s =
+    let a = if-passes (reachable s) _ _ in
+    let b = Iff·trans (if-passes _ _ _) (not-not-false (hasSecondWay s (wayOf (wayAt s)))) in
+    let d = Iff·trans (at-passes _ _) (none-fails (undone s) (steps s)) in (
+      λ e. let (x, r) = then-passes (check8 s) _ .0 e in let (y, z) = then-passes (check9 s) (check10 s) .0 r in (a .0 x, b .0 y, d .0 z),
+      λ (x, y, z). then-passes (check8 s) _ .1 (a .1 x, then-passes (check9 s) (check10 s) .1 (b .1 y, d .1 z)),
+    )
+
+-- the checks in their order: well formed, clear, and page enough
+all-pass : (s : List ℕ) (length n : ℕ) → (checkAnswer s length ≡ done n) ↔ ((n ≡ steps s) × WellFormed s × Clear s × (programLength (steps s) ≤ length))
+unfolding checkAnswer checks1to10
+all-pass s length n = (down, up)
+  where
+    page : (check11 s length ≡ passes) ↔ (programLength (steps s) ≤ length)
+    page = Iff·trans (if-passes _ _ _) (ltb-false _ _, le-ltb _ _)
+
+    down : checkAnswer s length ≡ done n → (n ≡ steps s) × WellFormed s × Clear s × (programLength (steps s) ≤ length)
+    down e =
+        let (p, m) = answered-done _ (steps s) n .0 e in
+        let (t, q) = then-passes (checks1to10 s) (check11 s length) .0 p in
+        let (r, u) = then-passes (checks1to5 s) _ .0 t in
+        let (f, v) = then-passes (checkSteps s) _ .0 u in
+        let each = steps-pass s .0 f in
+        let w = pass-8-to-10 s .0 v in
+        (sym m, record { read = r; shaped = λ i l. each i l .0 }, record { founded = λ i l. each i l .1; hidden = w .0; secondWay = w .1; kept = w .2 }, page .0 q)
+
+    up : (n ≡ steps s) × WellFormed s × Clear s × (programLength (steps s) ≤ length) → checkAnswer s length ≡ done n
+    up (m, g, c, l) =
+        let v = pass-8-to-10 s .1 (c .hidden, c .secondWay, c .kept) in
+        let f = steps-pass s .1 (λ i b. (g .shaped i b, c .founded i b)) in
+        let t = then-passes (checks1to5 s) _ .1 (g .read, then-passes (checkSteps s) _ .1 (f, v)) in
+        answered-done _ (steps s) n .1 (then-passes (checks1to10 s) (check11 s length) .1 (t, page .1 l), sym m)
+
+-- the clear submissions are those that meet the conditions
+clear-iff : (s : List ℕ) → Bytes s → WellFormed s → Clear s ↔ FiveConditions s
+clear-iff s b w =
+    let c : Claimed s = claimed s b (w .read) in
+    let each : (i : ℕ) → i < steps s → Sound s i = λ i l. sound (c .read) i (w .shaped i l) in (
+      λ z. record {
+        founded = λ i l. founded-terms c each i l .0 (z .founded i l);
+        present = c .verifying-below;
+        hidden = reachable-iff c each .0 (z .hidden);
+        secondWay = second-way-iff c each .0 (z .secondWay);
+        kept = undone-iff c each .0 (z .kept) .0;
+        companionKept = undone-iff c each .0 (z .kept) .1;
+      },
+      λ f. record {
+        founded = λ i l. founded-terms c each i l .1 (f .founded i l);
+        hidden = reachable-iff c each .1 (f .hidden);
+        secondWay = second-way-iff c each .1 (f .secondWay);
+        kept = undone-iff c each .1 (f .kept, f .companionKept);
+      },
+    )
+
+-- ---- Demand 2, acceptance
+-- "a submission is well formed when it passes checks 1 to 5 and every step passes check 6; it has page enough when row 11 doesn't
+-- hold. An acceptance carries N": checking accepts with n exactly when n is the count of steps, the submission is well formed and
+-- meets the five conditions, and the page has 3N+4 bytes.
+pub accepted-iff : (s : List ℕ) → Bytes s → (length n : ℕ) →
+    (checkAnswer s length ≡ done n) ↔ ((n ≡ steps s) × WellFormed s × FiveConditions s × (programLength (steps s) ≤ length))
+accepted-iff s b length n =
+    Iff·trans (all-pass s length n) (λ (m, w, c, l). (m, w, clear-iff s b w .0 c, l), λ (m, w, f, l). (m, w, clear-iff s b w .1 f, l))

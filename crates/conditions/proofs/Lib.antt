@@ -1,0 +1,11 @@
+pub mod Acceptance
+pub mod AcceptanceConditions
+pub mod Program
+pub mod Promise
+pub mod Refusal
+pub mod SecondWay
+pub mod Signal
+pub mod Standing
+pub mod Undone
+pub mod Verdicts
+pub mod Writing

@@ -1,0 +1,223 @@
+-- The program of a well-formed submission that meets the five conditions: the machine takes it, the right guess signals 1, and a wrong guess 0.
+use mathlib.Core.Path.{_≡_, refl, ap, ap₂, sym, _∙_, subst, subst₃}
+use mathlib.Core.Bool.{Bool, true, false, cond, not}
+use mathlib.Core.List.{List}
+use mathlib.Core.Logic.{_⊎_, inl, inr, ⊎-elim}
+use mathlib.Core.Option.{Option, none, some}
+use Prim.Native.Nat.{ℕ, _≤_, _<_}
+use native.Mathlib.Omega.{arith}
+use lib.Dec.{eqb, ltb}
+use lib.ListN.{length}
+use borrow.Author.Tests.{lt-ltb}
+use Rattle.base.specs.Grow.{listed}
+use Rattle.base.proofs.Grow.{length-listed, listed-at}
+use Rattle.base.proofs.Order.{lt-or-ge}
+use Rattle.base.proofs.Says.{says-and, says-true, denies}
+use Rattle.term.specs.Term.{Kind, plain, public, private, Head, Term, atom, single, isKey, inverse, Part}
+use Rattle.term.specs.Reduce.{op}
+use Rattle.term.specs.Rule.{rules, hasOne}
+use Rattle.term.specs.Step.{Undoes}
+use Rattle.term.proofs.Reduce.{step-op}
+use Rattle.term.proofs.Reach.{Reach, known, reach-iff}
+use Rattle.term.proofs.Guess.{UndoesSome, OutOfReach, FreshGuess, MayHold, clean, tried, Executed, op-may-hold, another-step-differs, at-start-differs, verified-no-key}
+use Rattle.base.specs.Bytes.{Bytes}
+use Rattle.submission.specs.Record.{entries, steps, entryAt, ruleAt, pAt, qAt, conclusionAt, guess, verifying, wayAt, companion, nameAt, term, areInverse, InKnowledge}
+use Rattle.submission.specs.Claim.{Way, another-step, at-start, inverse-key, wayOf}
+use Rattle.submission.proofs.Listed.{Claimed, claimed}
+use Rattle.derivation.specs.Register.{written, isKnown}
+use Rattle.derivation.specs.Step.{secondAt}
+use Rattle.derivation.proofs.Register.{says-known, result-register}
+use Rattle.derivation.proofs.Founded.{Sound, sound, founded-iff}
+use Rattle.machine.specs.Program.{bytesOf, relationOf, isTest, badInstruction, badTest, badProgram}
+use Rattle.machine.specs.Run.{atomKind, guessed, holds as relates, signals, signal}
+use Rattle.machine.proofs.Program.{byte-count, test-back, program-passes}
+use Rattle.machine.proofs.Registers.{register-entry, register-guess, says-equal, says-inverse}
+use Rattle.conditions.specs.Check.{hasSecondWay}
+use Rattle.conditions.specs.Condition.{WellFormed, FiveConditions, Differs, SecondWay, UndoesNone, rule, first, second, concluded}
+use Rattle.conditions.specs.Page.{lowest, instruction, program, testOf, testLetter, testSecond}
+use Rattle.conditions.specs.Wrong.{WrongGuess}
+use Rattle.conditions.proofs.AcceptanceConditions.{founded-terms, second-way-iff}
+use Rattle.conditions.proofs.Program.{lowest-known, program-steps, value, result, same-operand, holds, holds-lowest}
+
+-- a step of the derivation
+abbrev InDerivation : List ℕ → Head → Term → Term → Term → Type 0
+InDerivation s h p q t = (i : ℕ) × (i < steps s) × (h ≡ rule s i) × (p ≡ first s i) × (q ≡ second s i) × (t ≡ concluded s i)
+
+-- an atom that is fresh, and the inverse of no key that is a part, has a fresh inverse
+inverse-fresh : (K : Term → Type 0) (κ : Kind) (n : ℕ) → ((t : Term) → K t → Part (atom κ n) t → ⊥) →
+    ((t : Term) → K t → (k : Term) → Part k t → isKey k → atom κ n ≡ inverse k → ⊥) → (t : Term) → K t → Part (inverse (atom κ n)) t → ⊥
+inverse-fresh K plain n f g t k p = f t k p
+inverse-fresh K public n f g t k p = g t k (atom private n) p tt refl
+inverse-fresh K private n f g t k p = g t k (atom public n) p tt refl
+
+-- steps with another rule or another premise set are not alike in rule and premises
+unlike : (s : List ℕ) (i j : ℕ) → Differs s i j → rule s i ≡ rule s j → first s i ≡ first s j → second s i ≡ second s j → ⊥
+unlike s i j (inl f) a b d = f a
+unlike s i j (inr f) a b d = f (λ x. (⊎-elim (λ e. inl (e ∙ b)) (λ e. inr (e ∙ d)), ⊎-elim (λ e. inl (e ∙ sym b)) (λ e. inr (e ∙ sym d))))
+
+-- what the program's test asks of the registers
+module _ (s : List ℕ) (name : ℕ) where
+  abbrev asked : Option Way → Bool
+  asked o = relates (relationOf (testLetter o)) (value s name (steps s) (written s (verifying s))) (value s name (steps s) (testSecond s o))
+
+  signal-asks : signal s name (bytesOf (program s)) ≡ cond (asked (wayOf (wayAt s))) 1 0
+  unfolding signal signals program testOf
+  signal-asks = rw (byte-count (program s), program-steps s, test-back (program s))
+
+module _ (s : List ℕ) (bytes : Bytes s) (w : WellFormed s) (c : FiveConditions s) where
+  claim : Claimed s
+  claim = claimed s bytes (w .read)
+
+  guess-right : term s (guess s) ≡ guessed s (nameAt s (guess s))
+  unfolding guessed
+  guess-right = claim .guess-term ∙ ap (λ o. atom (atomKind o) (nameAt s (guess s))) (sym (claim .guess-shape))
+
+  shaped : (i : ℕ) → i < steps s → Sound s i
+  shaped i l = sound (claim .read) i (w .shaped i l)
+
+  -- what is known, by term numbers: the premises of a step, way b's term and way c's inverse
+  premises-known : (i : ℕ) → i < steps s → (isKnown s i (pAt s i) ≡ true) × (isKnown s i (secondAt s i) ≡ true)
+  premises-known i l =
+      let (p, q) = founded-iff s i .0 (founded-terms claim shaped i l .1 (c .founded i l)) in
+      (says-known s i (pAt s i) .1 p, says-known s i (secondAt s i) .1 q)
+
+  way-found : {o : Option Way} → wayOf (wayAt s) ≡ o → hasSecondWay s o ≡ true
+  way-found e = subst (λ o. hasSecondWay s o ≡ true) e (second-way-iff claim shaped .1 (c .secondWay))
+
+  inverse-known : wayOf (wayAt s) ≡ some inverse-key → isKnown s (steps s) (companion s) ≡ true
+  inverse-known e = says-and (areInverse s (conclusionAt s (verifying s)) (companion s)) _ (says-true _) (says-true _) .0 (way-found e) .1
+
+  -- ---- check 13
+  instruction-good : (i : ℕ) → i < steps s → badInstruction (written s i) (instruction s i) ≡ false
+  unfolding badInstruction instruction secondAt
+  instruction-good i l =
+      let (p, q) = premises-known i l in
+      rw (lt-ltb (ruleAt s i) rules (shaped i l .rule-below), lt-ltb (lowest s (pAt s i)) (written s i) (lowest-known s i (pAt s i) (omega arith) p .1))
+      (go (hasOne (ruleAt s i)) (lowest-known s i (secondAt s i) (omega arith) q .1))
+    where
+      go : (b : Bool) → lowest s (cond b (pAt s i) (qAt s i)) < written s i → not (cond b (eqb (cond b 0 (lowest s (qAt s i))) 0) (ltb (cond b 0 (lowest s (qAt s i))) (written s i))) ≡ false
+      go true h = refl
+      go false h = rw (lt-ltb (lowest s (qAt s i)) (written s i) h)
+
+  test-good : (o : Option Way) → wayOf (wayAt s) ≡ o → SecondWay s o → (isTest (relationOf (testLetter o)) ≡ true) × (testSecond s o < written s (steps s))
+  unfolding relationOf
+  test-good none e z = absurd z
+  test-good (some another-step) e (l, f, d) = (refl, omega arith)
+  test-good (some at-start) e z = let (f, b) = lowest-known s 0 _ (omega arith) (way-found e) in (refl, omega arith)
+  test-good (some inverse-key) e z = (refl, lowest-known s (steps s) _ (omega arith) (inverse-known e) .1)
+
+  pub program-good : badProgram s (bytesOf (program s)) ≡ false
+  unfolding badTest program testOf
+  program-good =
+      let (a, b) = test-good (wayOf (wayAt s)) refl (c .secondWay) in
+      let e : length (listed (instruction s) (steps s)) ≡ steps s = length-listed (instruction s) (steps s) in
+      program-passes (program s) s (instruction s 0) (rw e (claim .read .steps-most))
+      (λ i l. let h : i < steps s = rw e at l in ap (badInstruction (written s i)) (listed-at (instruction s) i (steps s) (instruction s 0) h) ∙ instruction-good i h)
+      (rw (e, a, lt-ltb (written s (verifying s)) (written s (steps s)) (let h = c .present in omega arith), lt-ltb (testSecond s (wayOf (wayAt s))) (written s (steps s)) b))
+
+  -- ---- the right guess: each register holds its term
+  abbrev right : ℕ
+  right = nameAt s (guess s)
+
+  right-next : (i : ℕ) → i < steps s → (v u : Term) → v ≡ first s i → u ≡ second s i → (single (rule s i) ≡ true → v ≡ u) → op (rule s i) v u ≡ concluded s i
+  right-next i l v u e f o = ap₂ (op (rule s i)) e f ∙ step-op (rule s i) (first s i) (second s i) (concluded s i) (shaped i l .step) (claim .read .messages (pAt s i) (shaped i l .p-below))
+
+  right-result : (i : ℕ) → i < steps s → value s right (steps s) (written s i) ≡ concluded s i
+  right-result i l =
+      holds s right (λ t v. v ≡ t) (λ r b. refl) (sym guess-right) premises-known right-next (steps s) (omega arith) (written s i) (omega arith)
+      ∙ ap (term s) (result-register s i)
+
+  right-lowest : (i t : ℕ) → i ≤ steps s → isKnown s i t ≡ true → value s right (steps s) (lowest s t) ≡ term s t
+  right-lowest i t b = holds-lowest s right (λ t v. v ≡ t) (λ r b. refl) (sym guess-right) premises-known right-next i (steps s) b (omega arith) t
+
+  asked-right : (o : Option Way) → wayOf (wayAt s) ≡ o → SecondWay s o → asked s right o ≡ true
+  unfolding relationOf
+  asked-right none e z = absurd z
+  asked-right (some another-step) e (l, f, d) =
+      says-equal _ _ .1 (right-result (companion s) l ∙ f ∙ sym (right-result (verifying s) (c .present)))
+  asked-right (some at-start) e z =
+      says-equal _ _ .1 (right-lowest 0 _ (omega arith) (way-found e) ∙ sym (right-result (verifying s) (c .present)))
+  asked-right (some inverse-key) e z =
+      let r = right-result (verifying s) (c .present) in
+      says-inverse _ _ .1
+      (subst isKey (sym r) (z .0), right-lowest (steps s) (companion s) (omega arith) (inverse-known e) ∙ z .1 ∙ ap inverse (sym r))
+
+  pub right-signal : signal s right (bytesOf (program s)) ≡ 1
+  right-signal = rw (signal-asks s right, asked-right (wayOf (wayAt s)) refl (c .secondWay))
+
+  -- ---- a wrong guess
+  undoes-none : (j : ℕ) → UndoesNone s j → UndoesSome (InDerivation s) (rule s j) (first s j) (concluded s j) → ⊥
+  undoes-none j f (h, p, q, t, (i, l, a, b, d, e), u) = f i l (subst₃ (Undoes (rule s j) (first s j) (concluded s j)) a b e u)
+
+  out-of-reach : OutOfReach (InKnowledge s) (first s (verifying s)) (second s (verifying s))
+  out-of-reach =
+      let (x, m, f) = c .hidden in
+      let g : Reach (InKnowledge s) x → ⊥ = λ r. f (reach-iff (InKnowledge s) x .0 r) in
+      ⊎-elim (λ e. inl (subst (λ z. Reach (InKnowledge s) z → ⊥) e g)) (λ e. inr (subst (λ z. Reach (InKnowledge s) z → ⊥) e g)) m
+
+  module _ (name : ℕ) (wrong : WrongGuess s name) where
+    abbrev May : Term → Term → Type 0
+    May = MayHold (InKnowledge s) (InDerivation s) (term s (guess s)) (guessed s name)
+
+    abbrev Ran : ℕ → Term → Type 0
+    Ran i t =
+        Executed (InKnowledge s) (InDerivation s) (term s (guess s)) (guessed s name) (rule s i) (first s i) (second s i) t
+        (value s name i (lowest s (pAt s i))) (value s name i (lowest s (secondAt s i)))
+
+    fresh-guess : FreshGuess (InKnowledge s) (InDerivation s) (term s (guess s)) (guessed s name)
+    unfolding guessed
+    fresh-guess =
+        record {
+          sound = λ h p q t m. rw (m .2, m .3, m .4, m .5) (shaped (m .0) (m .1) .step);
+          messages = λ t k. rw (k .2) (claim .read .messages (entryAt s (k .0)) (claim .read .entry-below (k .0) (k .1)));
+          w-atom = (_, name, refl);
+          w-fresh = wrong .fresh;
+          w-inverse-fresh = inverse-fresh (InKnowledge s) _ name (wrong .fresh) (wrong .inverseFresh);
+        }
+
+    executed : (i : ℕ) → i < steps s → {v u : Term} → May (first s i) v → May (second s i) u → (single (rule s i) ≡ true → v ≡ u) →
+        Executed (InKnowledge s) (InDerivation s) (term s (guess s)) (guessed s name) (rule s i) (first s i) (second s i) (concluded s i) v u
+    executed i l x y o = record { step = (i, l, refl, refl, refl, refl); first = x; second = y; once = o }
+
+    may-lowest : (i : ℕ) → i ≤ steps s → (t : ℕ) → isKnown s i t ≡ true → May (term s t) (value s name i (lowest s t))
+    may-lowest i b =
+        holds-lowest s name May (λ r l. clean (known (r, l, refl)) refl) (tried refl refl) premises-known
+        (λ i l v u x y o. op-may-hold (InKnowledge s) (InDerivation s) (term s (guess s)) (guessed s name) fresh-guess (executed i l x y o)) i i (omega arith) b
+
+    ran : (i : ℕ) → i < steps s → Ran i (concluded s i)
+    ran i l =
+        let (p, q) = premises-known i l in
+        executed i l (may-lowest i (omega arith) (pAt s i) p) (may-lowest i (omega arith) (secondAt s i) q) (same-operand s name i)
+
+    at-start-value : (n r : ℕ) → r < written s 0 → InKnowledge s (value s name n r) ⊎ (value s name n r ≡ guessed s name)
+    at-start-value n r l = ⊎-elim
+        (λ b. inl (r, b, register-entry s name (bytesOf (program s)) n r b))
+        (λ b. let e : r ≡ entries s = omega arith in inr (rw e (register-guess s name (bytesOf (program s)) n))) (lt-or-ge r (entries s))
+
+    -- the register of the verifying step
+    verified-value : value s name (steps s) (written s (verifying s)) ≡ op (rule s (verifying s)) (value s name (verifying s) (lowest s (pAt s (verifying s)))) (value s name (verifying s) (lowest s (secondAt s (verifying s))))
+    verified-value = result s name (verifying s) (steps s) (c .present) (omega arith)
+
+    asked-wrong : (o : Option Way) → wayOf (wayAt s) ≡ o → SecondWay s o → asked s name o ≡ false
+    unfolding relationOf
+    asked-wrong none e z = absurd z
+    asked-wrong (some another-step) e (l, f, d) =
+        denies _ (says-equal _ _) .1 (λ z.
+        another-step-differs (InKnowledge s) (InDerivation s) (term s (guess s)) (guessed s name) fresh-guess
+        (ran (verifying s) (c .present)) out-of-reach (undoes-none (verifying s) (c .kept))
+        (subst (Ran (companion s)) f (ran (companion s) l))
+        (subst (λ t. UndoesSome (InDerivation s) (rule s (companion s)) (first s (companion s)) t → ⊥) f (undoes-none (companion s) (c .companionKept e)))
+        (unlike s (verifying s) (companion s) d)
+        (sym verified-value ∙ sym z ∙ result s name (companion s) (steps s) l (omega arith)))
+    asked-wrong (some at-start) e k =
+        denies _ (says-equal _ _) .1 (λ z.
+        at-start-differs (InKnowledge s) (InDerivation s) (term s (guess s)) (guessed s name) fresh-guess
+        (ran (verifying s) (c .present)) out-of-reach (undoes-none (verifying s) (c .kept))
+        _ (at-start-value (steps s) _ (lowest-known s 0 _ (omega arith) (way-found e) .1)) (sym verified-value ∙ sym z))
+    asked-wrong (some inverse-key) e z =
+        denies _ (says-inverse _ _) .1 (λ (k, _).
+        verified-no-key (InKnowledge s) (InDerivation s) (term s (guess s)) (guessed s name) fresh-guess
+        (ran (verifying s) (c .present)) out-of-reach (undoes-none (verifying s) (c .kept)) (subst isKey verified-value k))
+
+    pub wrong-signal : signal s name (bytesOf (program s)) ≡ 0
+    wrong-signal = rw (signal-asks s name, asked-wrong (wayOf (wayAt s)) refl (c .secondWay))

@@ -1,0 +1,85 @@
+-- What holds of a submission that passed checks 1 to 7, of one that passed checks 1 to 10, and of its records as the code reads them.
+use mathlib.Core.Path.{_≡_}
+use mathlib.Core.Bool.{Bool, true, _&&_, cond}
+use mathlib.Core.List.{List}
+use Prim.Native.Nat.{ℕ, _<_}
+use Rattle.base.proofs.Says.{not-not-false}
+use Rattle.term.specs.Rule.{hasOne}
+use Rattle.submission.specs.declared.Claim.{Claim}
+use Rattle.base.specs.Answer.{fails, failsIf}
+use Rattle.submission.specs.Contents.{Limited}
+use Rattle.submission.specs.Record.{terms, steps, verifying, wayAt}
+use Rattle.submission.specs.Claim.{wayOf}
+use Rattle.submission.specs.Check.{checks1to5}
+use Rattle.submission.specs.Code.{IsClaim}
+use Rattle.base.proofs.AnswerLaws.{then-passes, if-passes}
+use Rattle.submission.proofs.Passing.{limited, body-passes}
+use Rattle.submission.proofs.Listed.{Claimed, claimed}
+use Rattle.derivation.specs.declared.Step.{Step}
+use Rattle.derivation.specs.Step.{secondAt, checkSteps}
+use Rattle.derivation.specs.Code.{IsStep}
+use Rattle.derivation.proofs.Founded.{Sound, sound, steps-pass}
+use Rattle.deduction.specs.Deduce.{entryMarks, isDeducible}
+use Rattle.deduction.specs.Code.{Read}
+use Rattle.conditions.specs.Check.{reachable, hasSecondWay, check8, check9, check10, checks1to10}
+use Rattle.conditions.specs.Code.{Founded, Acceptable}
+
+-- the second premise of step i, read off its record
+pub second-is : {s : List ℕ} {i r : ℕ} {a : Step} → IsStep s i a → r ≡ cond (hasOne (a .rule)) (a .p) (a .q) → r ≡ secondAt s i
+unfolding secondAt
+second-is h e = cc (e, h .rule, h .first, h .second)
+
+-- ---- checks 1 to 7
+module _ {s : List ℕ} (h : Founded s) where
+  pub founded-claimed : Claimed s
+  founded-claimed = claimed s (h .bytes) (h .read)
+
+  pub founded-read : Read s
+  founded-read = record { bytes = h .bytes; passed = body-passes s (h .read) }
+
+  pub founded-limited : Limited s
+  founded-limited = limited s (body-passes s (h .read))
+
+  -- the premises of the verifying step
+  module _ {c : Claim} {a : Step} (k : IsClaim s c) (x : IsStep s (c .step) a) where
+    verifying-sound : Sound s (c .step)
+    verifying-sound =
+        let l : c .step < steps s = rw (k .step) (founded-claimed .verifying-below) in
+        sound (founded-claimed .read) (c .step) (steps-pass s .0 (h .founded) (c .step) l .0)
+
+    pub first-below : a .p < terms s
+    first-below = rw (x .first) (verifying-sound .p-below)
+
+    pub second-below : {u : ℕ} → u ≡ cond (hasOne (a .rule)) (a .p) (a .q) → u < terms s
+    second-below e = rw (second-is x e) (verifying-sound .second-below)
+
+-- ---- check 8
+pub reachable-is : {s : List ℕ} {c : Claim} {a : Step} {u : ℕ} {r : Bool} → IsClaim s c → IsStep s (c .step) a → u ≡ cond (hasOne (a .rule)) (a .p) (a .q) →
+    r ≡ (isDeducible s (entryMarks s) (a .p) && isDeducible s (entryMarks s) u) → r ≡ reachable s
+unfolding reachable
+reachable-is k x e f = rw (← (k .step), ← (x .first), ← (second-is x e)) f
+
+-- a check that fails at the verifying step
+pub fails-at-step : {s : List ℕ} {c : Claim} {k : ℕ} (b : Bool) (number : ℕ) → IsClaim s c → k ≡ c .step → b ≡ true → fails number k ≡ failsIf b number (verifying s)
+fails-at-step b number h e f = rw (f, e, h .step)
+
+pub ruleset founded = (founded-read, founded-limited, first-below, second-below, reachable-is)
+
+-- ---- checks 1 to 10
+module _ {s : List ℕ} (h : Acceptable s) where
+  pub acceptable-founded : Founded s
+  unfolding checks1to10
+  acceptable-founded =
+      let (r, t) = then-passes (checks1to5 s) _ .0 (h .passed) in
+      record { bytes = h .bytes; read = r; founded = then-passes (checkSteps s) _ .0 t .0 }
+
+  pub acceptable-limited : Limited s
+  acceptable-limited = founded-limited acceptable-founded
+
+  pub second-way : hasSecondWay s (wayOf (wayAt s)) ≡ true
+  unfolding checks1to10
+  second-way =
+      let (r, t) = then-passes (checks1to5 s) _ .0 (h .passed) in
+      let (r, t) = then-passes (checkSteps s) _ .0 t in
+      let (r, t) = then-passes (check8 s) _ .0 t in
+      not-not-false _ .0 (if-passes _ 9 (verifying s) .0 (then-passes (check9 s) (check10 s) .0 t .0))

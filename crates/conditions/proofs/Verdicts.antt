@@ -1,0 +1,117 @@
+-- The checks in order: what the code knows after each stage that passed, and what it answers where one refused.
+use mathlib.Core.Path.{_≡_, sym, ap, _∙_}
+use mathlib.Core.List.{List, _++_}
+use Prim.Native.Nat.{ℕ, _<_, _≤_}
+use mir.Syntax.{w8}
+use mir.Val.{Fits}
+use lib.ListN.{length, drop}
+use borrow.Author.Tests.{lt-ltb, le-ltb, ltb-false}
+use Rattle.base.specs.declared.Stage.{Stage}
+use Rattle.base.specs.declared.Stage.the-variants as stage
+use Rattle.base.specs.Answer.{Answer, done, refused, Check, passes, fails, andThen, answered}
+use Rattle.base.specs.Bytes.{byte}
+use Rattle.submission.specs.Contents.{Limited}
+use Rattle.submission.specs.Record.{steps}
+use Rattle.submission.specs.Check.{checks1to5}
+use Rattle.base.specs.Code.{checkOf}
+use Rattle.base.proofs.AnswerLaws.{if-passes}
+use Rattle.base.proofs.StageLaws.{bytes, stage-passes}
+use Rattle.submission.proofs.Passing.{body-passes, limited}
+use Rattle.derivation.specs.declared.Checked.{Checked as StepsRun}
+use Rattle.derivation.specs.Register.{written}
+use Rattle.derivation.specs.Code.{Registered, StepsChecked}
+use Rattle.machine.specs.Program.{bytesOf, programLength}
+use Rattle.conditions.specs.declared.Verdict.{Verdict}
+use Rattle.conditions.specs.declared.Verdict.the-variants.{Accepted, Refused}
+use Rattle.conditions.specs.Check.{check8, check9, check10, check11, checks1to10, checkAnswer}
+use Rattle.conditions.specs.Page.{program}
+use Rattle.conditions.specs.Calls.{verdictAnswer, Checked}
+use Rattle.conditions.specs.Code.{Founded, Acceptable}
+use Rattle.conditions.proofs.Program.{program-bytes}
+
+-- ---- check 11
+module _ (s page : List ℕ) {n k : ℕ} (e : n ≡ steps s) (f : k ≡ programLength n) where
+  needed : k ≡ programLength (steps s)
+  needed = f ∙ ap programLength e
+
+  pub page-short : length page < k → fails 11 k ≡ check11 s (length page)
+  page-short l = let m : length page < programLength (steps s) = rw (← needed) l in rw (lt-ltb _ _ m, needed)
+
+  pub page-enough : k ≤ length page → passes ≡ check11 s (length page)
+  page-enough l = let m : programLength (steps s) ≤ length page = rw (← needed) l in rw (le-ltb _ _ m)
+
+pub page-room : (s page : List ℕ) {u : Stage} → checkOf u ≡ check11 s (length page) → u ≡ stage.Passed → programLength (steps s) ≤ length page
+page-room s page e q = ltb-false _ _ (if-passes _ 11 (programLength (steps s)) .0 (stage-passes _ e q))
+
+-- ---- the answer and the page where every check is known
+module _ (s page : List ℕ) where
+  all : Check
+  all = andThen (checks1to10 s) (check11 s (length page))
+
+  refused-out : (number place : ℕ) (v : Verdict) → all ≡ fails number place → verdictAnswer v ≡ refused number place → Checked s page v page
+  unfolding all checkAnswer
+  refused-out number place v e f = record { answer = f ∙ rw e; bytes = rw e }
+
+  accepted-out : {n : ℕ} {page′ : List ℕ} → all ≡ passes → n ≡ steps s → page′ ≡ bytesOf (program s) ++ drop (programLength (steps s)) page → Checked s page (Accepted n) page′
+  unfolding all checkAnswer
+  accepted-out e f g = record { answer = rw (e, f); bytes = g ∙ rw (e, program-bytes s) }
+
+-- ---- the stages
+-- what a stage said that refused, and the answer that was made of it
+said : {r : Stage} {d : Check} (number place : ℕ) → checkOf r ≡ d → r ≡ stage.Refused number place → d ≡ fails number place
+said number place e q = sym e ∙ ap checkOf q
+
+of-refusal : {r : Stage} {w : Answer} (n number place : ℕ) → w ≡ answered (checkOf r) (done n) → r ≡ stage.Refused number place → w ≡ refused number place
+of-refusal n number place f q = f ∙ ap (λ x. answered (checkOf x) (done n)) q
+
+module _ (s : List ℕ) {r : Stage} (reading : checkOf r ≡ checks1to5 s) where
+  pub reading-out : (page : List ℕ) (n : ℕ) {a b : ℕ} (v : Verdict) → r ≡ stage.Refused a b → verdictAnswer v ≡ answered (checkOf r) (done n) → Checked s page v page
+  unfolding all checks1to10
+  reading-out page n {a} {b} v q f = refused-out s page a b v (rw (said a b reading q)) (of-refusal n a b f q)
+
+  module _ (read : r ≡ stage.Passed) where
+    pub reading-limited : Limited s
+    reading-limited = limited s (body-passes s (stage-passes _ reading read))
+
+    module _ {z : StepsRun} (each : StepsChecked s z) where
+      pub steps-out : (page : List ℕ) (n : ℕ) {a b : ℕ} (v : Verdict) → z .stage ≡ stage.Refused a b → verdictAnswer v ≡ answered (checkOf (z .stage)) (done n) → Checked s page v page
+      unfolding all checks1to10
+      steps-out page n {a} {b} v q f =
+          refused-out s page a b v (rw (stage-passes _ reading read, said a b (each .answer) q)) (of-refusal n a b f q)
+
+      module _ (passed : z .stage ≡ stage.Passed) where
+        pub steps-registered : Registered s (written s (steps s)) (z .registers)
+        steps-registered = each .registers passed
+
+        pub steps-founded : ((i : ℕ) → Fits w8 (byte s i)) → Founded s
+        steps-founded f = record { bytes = bytes s f; read = stage-passes _ reading read; founded = stage-passes _ (each .answer) passed }
+
+        module _ {t : Stage} (conditions : checkOf t ≡ andThen (check8 s) (andThen (check9 s) (check10 s))) where
+          pub conditions-out : (page : List ℕ) (n : ℕ) {a b : ℕ} (v : Verdict) → t ≡ stage.Refused a b → verdictAnswer v ≡ answered (checkOf t) (done n) → Checked s page v page
+          unfolding all checks1to10
+          conditions-out page n {a} {b} v q f =
+              refused-out s page a b v (rw (stage-passes _ reading read, stage-passes _ (each .answer) passed, said a b conditions q)) (of-refusal n a b f q)
+
+          module _ (met : t ≡ stage.Passed) where
+            pub met-passes : checks1to10 s ≡ passes
+            unfolding checks1to10
+            met-passes = rw (stage-passes _ reading read, stage-passes _ (each .answer) passed) (stage-passes _ conditions met)
+
+            pub met-acceptable : ((i : ℕ) → Fits w8 (byte s i)) → Acceptable s
+            met-acceptable f = record { bytes = bytes s f; passed = met-passes }
+
+            module _ (page : List ℕ) {u : Stage} (room : checkOf u ≡ check11 s (length page)) where
+              pub page-out : (n : ℕ) {a b : ℕ} (v : Verdict) → u ≡ stage.Refused a b → verdictAnswer v ≡ answered (checkOf u) (done n) → Checked s page v page
+              unfolding all
+              page-out n {a} {b} v q f = refused-out s page a b v (rw (met-passes, said a b room q)) (of-refusal n a b f q)
+
+              pub page-written : {n : ℕ} {page′ : List ℕ} → u ≡ stage.Passed → n ≡ steps s → page′ ≡ bytesOf (program s) ++ drop (programLength (steps s)) page → Checked s page (Accepted n) page′
+              unfolding all
+              page-written q e f = accepted-out s page (rw met-passes (stage-passes _ room q)) e f
+
+-- ---- the answer that a verdict stands for
+pub answer-accepted : {v : Verdict} {n m : ℕ} → v ≡ Accepted n → m ≡ n → done m ≡ verdictAnswer v
+answer-accepted e f = rw (e, f)
+
+pub answer-refused : {v : Verdict} {number place : ℕ} → v ≡ Refused number place → refused number place ≡ verdictAnswer v
+answer-refused e = rw e

@@ -1,0 +1,25 @@
+-- `checker::conditions::is_reachable` meets its contract: both premises are listed terms.
+use Rattle.conditions.proofs.Standing.{founded}
+use borrow.Author.Needs.{needs}
+use Rattle.conditions.proofs.conditions.is_reachable.Statement.{statement}
+use Rattle.conditions.proofs.conditions.is_reachable.Tie as tie
+
+claim-of-requires : tie.Need-claim-of-requires
+claim-of-requires c κs = search needs
+
+step-at-requires : tie.Need-step-at-requires
+step-at-requires c κs = search needs
+
+second-of-requires : tie.Need-second-of-requires
+second-of-requires c κs = search needs
+
+are-deducible-requires : tie.Need-are-deducible-requires
+are-deducible-requires c κs = search (founded, needs)
+
+returns : tie.Need-returns
+returns c = search founded
+
+pub is-reachable-spec : {M : Type 1} → statement M
+is-reachable-spec =
+    tie.close
+    (tie.spec claim-of-requires step-at-requires second-of-requires are-deducible-requires returns)

@@ -1,0 +1,19 @@
+-- What the call `check` promises.
+use mathlib.Core.List.{List}
+use Prim.Native.Nat.{ℕ}
+use lib.ListN.{length}
+use Rattle.base.specs.Answer.{Answer, done, refused, Writes}
+use Rattle.machine.specs.Program.{bytesOf}
+use Rattle.conditions.specs.declared.Verdict.{Verdict}
+use Rattle.conditions.specs.declared.Verdict.the-variants.{Accepted, Refused}
+use Rattle.conditions.specs.Check.{checkAnswer}
+use Rattle.conditions.specs.Page.{program}
+
+-- the answer that a verdict stands for
+abbrev pub verdictAnswer : Verdict → Answer
+verdictAnswer (Accepted n) = done n
+verdictAnswer (Refused number place) = refused number place
+
+-- the verdict r and the page afterwards: the answer of checking, and where it is done the submission's register program
+abbrev pub Checked : List ℕ → List ℕ → Verdict → List ℕ → Type 0
+Checked s page r page′ = Writes (checkAnswer s (length page)) (bytesOf (program s)) page (verdictAnswer r) page′

@@ -1,0 +1,80 @@
+-- Checks 8 to 11 and the answer of checking: document 01, 'Verdicts'.
+use mathlib.Core.Bool.{Bool, false, _&&_, _||_, not}
+use mathlib.Core.List.{List}
+use mathlib.Core.Option.{Option, none, some}
+use Prim.Native.Nat.{ℕ}
+use lib.Dec.{eqb, ltb}
+use Rattle.base.specs.First.{first}
+use Rattle.term.specs.Term.{head?, test, Head, pair, part, encrypt, decrypt, left, right}
+use Rattle.term.specs.Rule.{headOf}
+use Rattle.base.specs.Answer.{Answer, done, Check, failsAt, failsIf, andThen, answered}
+use Rattle.submission.specs.Record.{steps, ruleAt, pAt, conclusionAt, verifying, wayAt, companion, areInverse}
+use Rattle.submission.specs.Claim.{Way, another-step, at-start, inverse-key, wayOf}
+use Rattle.submission.specs.Check.{checks1to5}
+use Rattle.derivation.specs.Register.{isKnown}
+use Rattle.derivation.specs.Step.{secondAt, checkSteps}
+use Rattle.deduction.specs.Deduce.{entryMarks, isDeducible}
+use Rattle.machine.specs.Program.{programLength}
+
+-- 8 reachable: "condition 3 broken"; every premise of the verifying step is deducible from the knowledge, in which the guess does not count
+unfoldable pub reachable : List ℕ → Bool
+reachable s =
+    isDeducible s (entryMarks s) (pAt s (verifying s)) && isDeducible s (entryMarks s) (secondAt s (verifying s))
+
+abbrev pub check8 : List ℕ → Check
+check8 s = failsIf (reachable s) 8 (verifying s)
+
+-- the premise sets of two steps are equal: each holds the other's members
+abbrev pub isPremise : List ℕ → ℕ → ℕ → Bool
+isPremise s i t = eqb t (pAt s i) || eqb t (secondAt s i)
+
+unfoldable pub samePremises : List ℕ → ℕ → ℕ → Bool
+samePremises s i j =
+    (isPremise s j (pAt s i) && isPremise s j (secondAt s i)) && (isPremise s i (pAt s j) && isPremise s i (secondAt s j))
+
+-- 9 no second way: "condition 4 broken". Before step 0 the knowledge and the guess are known.
+abbrev pub hasSecondWay : List ℕ → Option Way → Bool
+hasSecondWay s none = false
+hasSecondWay s (some another-step) =
+    eqb (conclusionAt s (companion s)) (conclusionAt s (verifying s))
+    && (not (eqb (ruleAt s (verifying s)) (ruleAt s (companion s))) || not (samePremises s (verifying s) (companion s)))
+hasSecondWay s (some at-start) = isKnown s 0 (conclusionAt s (verifying s))
+hasSecondWay s (some inverse-key) = areInverse s (conclusionAt s (verifying s)) (companion s) && isKnown s (steps s) (companion s)
+
+abbrev pub check9 : List ℕ → Check
+check9 s = failsIf (not (hasSecondWay s (wayOf (wayAt s)))) 9 (verifying s)
+
+-- 10 undone: "condition 5 broken", place "lowest undone step". A step of the rule h from p to t undoes one of h′ from p′ to t′.
+abbrev pub undoes : Head → ℕ → ℕ → Head → ℕ → ℕ → Bool
+undoes pair p t h′ p′ t′ = (test (head? h′ (part left)) || test (head? h′ (part right))) && eqb p′ t
+undoes (part i) p t h′ p′ t′ = test (head? h′ pair) && eqb t′ p
+undoes (encrypt c) p t h′ p′ t′ = test (head? h′ (decrypt c)) && eqb p′ t
+undoes (decrypt c) p t h′ p′ t′ = test (head? h′ (encrypt c)) && eqb t′ p
+
+-- step j undoes step i
+unfoldable pub undoesStep : List ℕ → ℕ → ℕ → Bool
+undoesStep s j i = undoes (headOf (ruleAt s j)) (pAt s j) (conclusionAt s j) (headOf (ruleAt s i)) (pAt s i) (conclusionAt s i)
+
+-- in way a the companion must undo nothing either
+abbrev pub companionUndoes : List ℕ → Option Way → ℕ → Bool
+companionUndoes s none i = false
+companionUndoes s (some another-step) i = undoesStep s (companion s) i
+companionUndoes s (some at-start) i = false
+companionUndoes s (some inverse-key) i = false
+
+unfoldable pub undone : List ℕ → ℕ → Bool
+undone s i = undoesStep s (verifying s) i || companionUndoes s (wayOf (wayAt s)) i
+
+abbrev pub check10 : List ℕ → Check
+check10 s = failsAt 10 (first (undone s) (steps s))
+
+-- 11 page: "page under 3N+4 bytes", place "length needed"
+abbrev pub check11 : List ℕ → ℕ → Check
+check11 s length = failsIf (ltb length (programLength (steps s))) 11 (programLength (steps s))
+
+unfoldable pub checks1to10 : List ℕ → Check
+checks1to10 s = andThen (checks1to5 s) (andThen (checkSteps s) (andThen (check8 s) (andThen (check9 s) (check10 s))))
+
+-- the answer of checking a submission with a page of this length
+unfoldable pub checkAnswer : List ℕ → ℕ → Answer
+checkAnswer s length = answered (andThen (checks1to10 s) (check11 s length)) (done (steps s))

@@ -1,0 +1,36 @@
+-- What the code's tests and requirements mean in document 01's terms.
+use mathlib.Core.Path.{_≡_}
+use mathlib.Core.Bool.{Bool, false, _&&_, _||_, not}
+use mathlib.Core.List.{List}
+use Prim.Native.Nat.{ℕ}
+use lib.Dec.{eqb}
+use Rattle.term.specs.Term.{head?, test, Head, pair, part, encrypt, decrypt, left, right}
+use Rattle.base.specs.Answer.{passes}
+use Rattle.base.specs.Bytes.{Bytes}
+use Rattle.submission.specs.Record.{ruleAt, conclusionAt}
+use Rattle.submission.specs.Check.{checks1to5}
+use Rattle.derivation.specs.Step.{checkSteps}
+use Rattle.conditions.specs.Check.{samePremises, checks1to10}
+
+-- bytes that passed checks 1 to 7
+pub record Founded (s : List ℕ) : Type 0 where
+  pub bytes : Bytes s
+  pub read : checks1to5 s ≡ passes
+  pub founded : checkSteps s ≡ passes
+
+-- bytes that passed checks 1 to 10
+pub record Acceptable (s : List ℕ) : Type 0 where
+  pub bytes : Bytes s
+  pub passed : checks1to10 s ≡ passes
+
+-- way a: step j concludes what step i does, by another rule or from another premise set
+abbrev pub otherWay : List ℕ → ℕ → ℕ → Bool
+otherWay s i j =
+    eqb (conclusionAt s j) (conclusionAt s i) && (not (eqb (ruleAt s i) (ruleAt s j)) || not (samePremises s i j))
+
+-- the head h takes apart what the head b builds
+abbrev pub takesApart : Head → Head → Bool
+takesApart h pair = test (head? h (part left)) || test (head? h (part right))
+takesApart h (part i) = false
+takesApart h (encrypt c) = test (head? h (decrypt c))
+takesApart h (decrypt c) = false

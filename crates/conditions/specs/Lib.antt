@@ -1,0 +1,6 @@
+pub mod Calls
+pub mod Check
+pub mod Code
+pub mod Condition
+pub mod Page
+pub mod Wrong

@@ -1,0 +1,218 @@
+// Conditions 3 to 5: checks 8 to 10, in this order.
+use base::Stage;
+use derivation::Registers;
+ghost use mathlib.Core.Path.{_≡_};
+ghost use mathlib.Core.Bool.{_&&_};
+ghost use Rattle.term.specs.Rule.{headOf};
+ghost use Rattle.submission.specs.Contents.{Limited};
+ghost use Rattle.submission.specs.Record.{steps, pAt, wayAt, areInverse};
+ghost use Rattle.submission.specs.Claim.{wayOf};
+ghost use Rattle.base.specs.Answer.{andThen};
+ghost use Rattle.base.specs.Code.{checkOf};
+ghost use Rattle.derivation.specs.Register.{written, isKnown};
+ghost use Rattle.derivation.specs.Step.{secondAt};
+ghost use Rattle.derivation.specs.Code.{Registered};
+ghost use Rattle.conditions.specs.Check.{reachable, isPremise, samePremises, hasSecondWay, undoesStep, undone, check8, check9, check10};
+ghost use Rattle.conditions.specs.Code.{Founded, takesApart, otherWay};
+
+// Condition 3 broken: both premises of the verifying step are deducible from the knowledge, without the guess.
+fn is_reachable(s: &[u8]) -> bool
+    requires { ⌜ Founded (now s) ⌝ }
+    ensures { λ r. ⌜ r ≡ reachable (now (s .entry)) ⌝ }
+{
+    let claim = submission::claim_of(s);
+    let step = derivation::step_at(s, claim.step);
+    deduction::are_deducible(s, step.p, derivation::second_of(step))
+}
+
+// Check 8.
+fn check_reachable(s: &[u8]) -> Stage
+    requires { ⌜ Founded (now s) ⌝ }
+    ensures { λ r. ⌜ checkOf r ≡ check8 (now (s .entry)) ⌝ }
+{
+    let claim = submission::claim_of(s);
+    if is_reachable(s) {
+        return Stage::Refused {
+            number: 8,
+            place: base::wide16(claim.step),
+        };
+    }
+    Stage::Passed
+}
+
+// Whether t is a premise of step i.
+fn is_premise(s: &[u8], i: u8, t: u8) -> bool
+    ensures { λ r. ⌜ r ≡ isPremise (now (s .entry)) i t ⌝ }
+{
+    let step = derivation::step_at(s, i);
+    if t == step.p {
+        return true;
+    }
+    t == derivation::second_of(step)
+}
+
+// Whether each premise of step i is one of step j.
+fn has_premises(s: &[u8], j: u8, i: u8) -> bool
+    ensures { λ r. ⌜ r ≡ (isPremise (now (s .entry)) j (pAt (now (s .entry)) i) && isPremise (now (s .entry)) j (secondAt (now (s .entry)) i)) ⌝ }
+{
+    let step = derivation::step_at(s, i);
+    if is_premise(s, j, step.p) {
+        return is_premise(s, j, derivation::second_of(step));
+    }
+    false
+}
+
+// Whether steps i and j have one premise set.
+fn same_premises(s: &[u8], i: u8, j: u8) -> bool
+    ensures { λ r. ⌜ r ≡ samePremises (now (s .entry)) i j ⌝ }
+{
+    if has_premises(s, j, i) {
+        return has_premises(s, i, j);
+    }
+    false
+}
+
+// Way a: step j concludes what step i does, by another rule or from another premise set.
+fn is_other_way(s: &[u8], i: u8, j: u8) -> bool
+    ensures { λ r. ⌜ r ≡ otherWay (now (s .entry)) i j ⌝ }
+{
+    let a = derivation::step_at(s, i);
+    let b = derivation::step_at(s, j);
+    if b.conclusion != a.conclusion {
+        return false;
+    }
+    if a.rule != b.rule {
+        return true;
+    }
+    !same_premises(s, i, j)
+}
+
+// Way b: the lowest register of t is one of the knowledge, or the guess's.
+fn is_known_at_start(s: &[u8], registers: Registers, t: u8) -> bool
+    requires { ⌜ Limited (now s) ⌝ }
+    requires { ⌜ Registered (now s) (written (now s) (steps (now s))) registers ⌝ }
+    ensures { λ r. ⌜ r ≡ isKnown (now (s .entry)) 0 t ⌝ }
+{
+    registers.lowest(t) < submission::entries(s) + 1
+}
+
+// Way c: t and j are inverse keys, and a register holds j.
+fn is_inverse_known(s: &[u8], registers: Registers, t: u8, j: u8) -> bool
+    requires { ⌜ Limited (now s) ⌝ }
+    requires { ⌜ Registered (now s) (written (now s) (steps (now s))) registers ⌝ }
+    ensures { λ r. ⌜ r ≡ (areInverse (now (s .entry)) t j && isKnown (now (s .entry)) (steps (now (s .entry))) j) ⌝ }
+{
+    if submission::are_inverse(s, t, j) {
+        return registers.lowest(j) < registers.used;
+    }
+    false
+}
+
+// Condition 4.
+fn has_second_way(s: &[u8], registers: Registers) -> bool
+    requires { ⌜ Limited (now s) ⌝ }
+    requires { ⌜ Registered (now s) (written (now s) (steps (now s))) registers ⌝ }
+    ensures { λ r. ⌜ r ≡ hasSecondWay (now (s .entry)) (wayOf (wayAt (now (s .entry)))) ⌝ }
+{
+    let claim = submission::claim_of(s);
+    let step = derivation::step_at(s, claim.step);
+    let way = claim.way;
+    match way {
+        b'a' => is_other_way(s, claim.step, claim.companion),
+        b'b' => is_known_at_start(s, registers, step.conclusion),
+        b'c' => is_inverse_known(s, registers, step.conclusion, claim.companion),
+        _ => false,
+    }
+}
+
+// Check 9.
+fn check_second_way(s: &[u8], registers: Registers) -> Stage
+    requires { ⌜ Limited (now s) ⌝ }
+    requires { ⌜ Registered (now s) (written (now s) (steps (now s))) registers ⌝ }
+    ensures { λ r. ⌜ checkOf r ≡ check9 (now (s .entry)) ⌝ }
+{
+    let claim = submission::claim_of(s);
+    if has_second_way(s, registers) {
+        return Stage::Passed;
+    }
+    Stage::Refused {
+        number: 9,
+        place: base::wide16(claim.step),
+    }
+}
+
+// Whether the rule `taker` takes apart what the rule `builder` builds. Rules are 0 to 6.
+fn takes_apart(taker: u8, builder: u8) -> bool
+    ensures { λ r. ⌜ r ≡ takesApart (headOf taker) (headOf builder) ⌝ }
+{
+    match builder {
+        0 => taker == 1 || taker == 2,
+        3 => taker == 4,
+        5 => 6 <= taker,
+        _ => false,
+    }
+}
+
+// Whether step j undoes step i: one of them takes apart the very term that the other builds.
+fn undoes_step(s: &[u8], j: u8, i: u8) -> bool
+    ensures { λ r. ⌜ r ≡ undoesStep (now (s .entry)) j i ⌝ }
+{
+    let a = derivation::step_at(s, j);
+    let b = derivation::step_at(s, i);
+    if takes_apart(b.rule, a.rule) {
+        return b.p == a.conclusion;
+    }
+    if takes_apart(a.rule, b.rule) {
+        return b.conclusion == a.p;
+    }
+    false
+}
+
+// Whether the verifying step undoes step i, or in way a the companion does.
+fn is_undone(s: &[u8], i: u8) -> bool
+    ensures { λ r. ⌜ r ≡ undone (now (s .entry)) i ⌝ }
+{
+    let claim = submission::claim_of(s);
+    if undoes_step(s, claim.step, i) {
+        return true;
+    }
+    if claim.way == b'a' {
+        return undoes_step(s, claim.companion, i);
+    }
+    false
+}
+
+// Check 10.
+fn check_undone(s: &[u8]) -> Stage
+    ensures { λ r. ⌜ checkOf r ≡ check10 (now (s .entry)) ⌝ }
+{
+    let n = submission::steps(s);
+    let mut i: u8 = 0;
+    while i < n {
+        if is_undone(s, i) {
+            return Stage::Refused {
+                number: 10,
+                place: base::wide16(i),
+            };
+        }
+        i += 1;
+    }
+    Stage::Passed
+}
+
+// Checks 8 to 10; a refusal goes straight out.
+pub fn check_conditions(s: &[u8], registers: Registers) -> Stage
+    requires { ⌜ Founded (now s) ⌝ }
+    requires { ⌜ Registered (now s) (written (now s) (steps (now s))) registers ⌝ }
+    ensures { λ r. ⌜ checkOf r ≡ andThen (check8 (now (s .entry))) (andThen (check9 (now (s .entry))) (check10 (now (s .entry)))) ⌝ }
+{
+    let reachable = check_reachable(s);
+    let Stage::Passed = reachable else {
+        return reachable;
+    };
+    let second_way = check_second_way(s, registers);
+    let Stage::Passed = second_way else {
+        return second_way;
+    };
+    check_undone(s)
+}
