@@ -35,3 +35,8 @@ module _ (p : ℕ → Bool) (n : ℕ) where
       go : (o : Option ℕ) → first p n ≡ o → (i : ℕ) × (first p n ≡ some i)
       go none e = absurd (false≢true (sym (ap isSome e) ∙ t))
       go (some i) e = (i, e)
+
+  -- and where it was found below n, it is found below more
+  pub any-more : (m : ℕ) → n ≤ m → any p n ≡ true → any p m ≡ true
+  unfolding any
+  any-more m l t = let (i, e) = any-first t in ap isSome (first-kept m i l e)

@@ -1,5 +1,5 @@
 -- Laws of a list that grows at its end: its length, an entry once there stays, and what entry i was made from.
-use mathlib.Core.Path.{_≡_, _∙_, subst}
+use mathlib.Core.Path.{_≡_, refl, _∙_, subst}
 use mathlib.Core.List.{List, [], _∷_}
 use Prim.Native.Nat.{ℕ, zero, suc, _+_, _-_, _≤_, _<_}
 use native.Mathlib.Nat.{add-zero, add-suc, zero-add}
@@ -38,3 +38,9 @@ module _ {A : Type 0} (f : ℕ → A) where
 
   pub listed-at : (i n : ℕ) (d : A) → i < n → getD (listed f n) i d ≡ f i
   listed-at i n d b = rw (zero-add i) at (grow-at [] (λ l i. f i) i n d b)
+
+-- lists that grow alike
+pub grow-alike : {A : Type 0} (s : List A) (f g : List A → ℕ → A) (n : ℕ) → ((i : ℕ) (l : List A) → i < n → f l i ≡ g l i) → grow s f n ≡ grow s g n
+unfolding grow
+grow-alike s f g zero h = refl
+grow-alike s f g (suc n) h = rw (grow-alike s f g n (λ i l b. h i l (omega arith)), h n (grow s g n) (omega arith))

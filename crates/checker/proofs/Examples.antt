@@ -15,17 +15,17 @@ use Rattle.term.specs.Rule.{headOf, wordOf, hasOne}
 use Rattle.base.specs.Answer.{Answer, done, refused}
 use Rattle.submission.specs.Contents.{start, badContents}
 use Rattle.submission.specs.Record.{shapeOf, recordAt, term, areInverse}
-use Rattle.submission.specs.Claim.{wayOf}
+use Rattle.submission.specs.Way.{wayOf}
 use Rattle.submission.specs.Check.{badTerm, badKnowledge, goodClaim, checks1to4, checks1to5}
 use Rattle.derivation.specs.Register.{registerTerm}
 use Rattle.derivation.specs.Step.{secondAt, badStep, unfounded, checkSteps}
 use Rattle.deduction.specs.Deduce.{builtWithin, round, rounds, entryMarks, isDeducible}
-use Rattle.machine.specs.Program.{relationOf, instructionBytes, bytesOf, instructionAt, testOf, badInstruction, badTest, badProgram}
+use Rattle.program.specs.Tests.{relationOf}
+use Rattle.program.specs.Program.{instructionBytes, bytesOf, instructionAt, testAt, badInstruction, badTest, badProgram}
 use Rattle.machine.specs.Run.{guessed, initial, executed, registers, signals, signal, runAnswer}
 use Rattle.text.specs.Text.{digits, stepLine, testLine, stepLines, answerText}
 use Rattle.conditions.specs.Check.{reachable, samePremises, undoesStep, undone, checks1to10, checkAnswer}
-use Rattle.conditions.specs.Page as page
-use Rattle.conditions.specs.Page.{lowest, instruction, program, pageChecked}
+use Rattle.conditions.specs.Page.{lowest, instruction, claimTest, program, pageChecked}
 use Rattle.checker.specs.Text.{verdictText}
 
 -- what is seen of a submission
@@ -290,7 +290,7 @@ want e = e .wanted
 
 -- the one computed fact
 pub table-right : map got table ≡ map want table
-unfolding first firstFrom any grow decoded op cancelled parted paired match? fits? isKey? headOf wordOf hasOne start badContents shapeOf recordAt term areInverse wayOf badTerm badKnowledge goodClaim checks1to4 checks1to5 registerTerm secondAt badStep unfounded checkSteps builtWithin round rounds entryMarks isDeducible relationOf instructionBytes bytesOf instructionAt testOf badInstruction badTest badProgram guessed initial executed registers signals signal runAnswer reachable samePremises undoesStep undone checks1to10 checkAnswer page.testOf lowest instruction program pageChecked digits stepLine testLine stepLines answerText verdictText Dec·and ℕ-discrete
+unfolding first firstFrom any grow decoded op cancelled parted paired match? fits? isKey? headOf wordOf hasOne start badContents shapeOf recordAt term areInverse wayOf badTerm badKnowledge goodClaim checks1to4 checks1to5 registerTerm secondAt badStep unfounded checkSteps builtWithin round rounds entryMarks isDeducible relationOf instructionBytes bytesOf instructionAt testAt badInstruction badTest badProgram guessed initial executed registers signals signal runAnswer reachable samePremises undoesStep undone checks1to10 checkAnswer claimTest lowest instruction program pageChecked digits stepLine testLine stepLines answerText verdictText Dec·and ℕ-discrete
 table-right = refl
 
 -- what it says of each example

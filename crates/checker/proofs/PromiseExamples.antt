@@ -19,7 +19,7 @@ use Rattle.base.specs.Answer.{done}
 use Rattle.base.specs.Bytes.{Bytes}
 use Rattle.submission.specs.Contents.{start}
 use Rattle.submission.specs.Record.{entries, entryAt, guess, nameAt, term, recordAt, shapeOf, InKnowledge}
-use Rattle.machine.specs.Program.{programLength}
+use Rattle.program.specs.Program.{programLength}
 use Rattle.machine.specs.Run.{guessed, runAnswer}
 use Rattle.conditions.specs.Page.{pageChecked}
 use Rattle.conditions.specs.Wrong.{WrongGuess}

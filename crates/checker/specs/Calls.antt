@@ -5,7 +5,7 @@ use Prim.Native.Nat.{ℕ, _+_, _*_, _≤_}
 use lib.ListN.{length, take}
 use Rattle.base.specs.Answer.{Answer, done, refused, pageAfter}
 use Rattle.text.specs.Puts.{Puts}
-use Rattle.machine.specs.Program.{bytesOf}
+use Rattle.program.specs.Program.{bytesOf}
 use Rattle.conditions.specs.Check.{checkAnswer}
 use Rattle.conditions.specs.Page.{program}
 use Rattle.checker.specs.Text.{verdictText}

@@ -9,13 +9,13 @@ use Rattle.base.proofs.Says.{not-not-false, none-fails}
 use Rattle.base.specs.Answer.{done, passes, andThen}
 use Rattle.base.specs.Bytes.{Bytes}
 use Rattle.submission.specs.Record.{steps, wayAt}
-use Rattle.submission.specs.Claim.{wayOf}
+use Rattle.submission.specs.Way.{wayOf}
 use Rattle.submission.specs.Check.{checks1to5}
 use Rattle.base.proofs.AnswerLaws.{if-passes, at-passes, then-passes, answered-done}
 use Rattle.submission.proofs.Listed.{Claimed, claimed}
 use Rattle.derivation.specs.Step.{unfounded, checkSteps}
 use Rattle.derivation.proofs.Founded.{Sound, sound, steps-pass}
-use Rattle.machine.specs.Program.{programLength}
+use Rattle.program.specs.Program.{programLength}
 use Rattle.conditions.specs.Check.{reachable, check8, hasSecondWay, check9, undone, check10, check11, checks1to10, checkAnswer}
 use Rattle.conditions.specs.Condition.{WellFormed, FiveConditions}
 use Rattle.conditions.proofs.AcceptanceConditions.{founded-terms, reachable-iff, second-way-iff, undone-iff}

@@ -15,7 +15,7 @@ use Rattle.term.specs.Step.{Deducible, Undoes}
 use Rattle.term.proofs.Reduce.{says-test}
 use Rattle.term.proofs.Rule.{head-inj}
 use Rattle.submission.specs.Record.{terms, steps, ruleAt, pAt, conclusionAt, entryAt, guess, verifying, wayAt, companion, term, InKnowledge}
-use Rattle.submission.specs.Claim.{Way, another-step, at-start, inverse-key, wayOf}
+use Rattle.submission.specs.Way.{Way, another-step, at-start, inverse-key, wayOf, row}
 use Rattle.submission.proofs.Listed.{Claimed, InRange}
 use Rattle.derivation.specs.Register.{isKnown}
 use Rattle.derivation.specs.Step.{secondAt, unfounded}
@@ -105,7 +105,7 @@ module _ {s : List ℕ} (c : Claimed s) (sound : (i : ℕ) → i < steps s → S
   says-differs : (i j : ℕ) → i < steps s → j < steps s → Says (not (eqb (ruleAt s i) (ruleAt s j)) || not (samePremises s i j)) (Differs s i j)
   says-differs i j l m = says-or _ _ (says-not _ (says-same-rule i j l m)) (says-not _ (says-same-premises i j l m))
 
-  says-way : (w : Way) → InRange s w → Says (hasSecondWay s (some w)) (SecondWay s (some w))
+  says-way : (w : Way) → InRange s (row w .companion) (companion s) → Says (hasSecondWay s (some w)) (SecondWay s (some w))
   says-way another-step l =
       let v = c .verifying-below in
       let e = says-same (conclusionAt s (companion s)) (conclusionAt s (verifying s)) (sound _ l .conclusion-below) (sound _ v .conclusion-below) in
@@ -146,7 +146,7 @@ module _ {s : List ℕ} (c : Claimed s) (sound : (i : ℕ) → i < steps s → S
           denies _ (says-undoes (rule s j) (rule s i) _ _ _ _ (x .p-below) (x .conclusion-below) (y .p-below) (y .conclusion-below))
 
   -- the companion counts in way a only
-  companion-undoes : (w : Way) → InRange s w → ((i : ℕ) → i < steps s → companionUndoes s (some w) i ≡ false) ↔ (some w ≡ some another-step → UndoesNone s (companion s))
+  companion-undoes : (w : Way) → InRange s (row w .companion) (companion s) → ((i : ℕ) → i < steps s → companionUndoes s (some w) i ≡ false) ↔ (some w ≡ some another-step → UndoesNone s (companion s))
   companion-undoes another-step l = (λ f e. undoes-none _ l .0 f, λ f. undoes-none _ l .1 (f refl))
   companion-undoes at-start l = (λ f e. absurd (let z : _≡_ {A = ℕ} 0 1 = cc in omega arith), λ f i m. refl)
   companion-undoes inverse-key l = (λ f e. absurd (let z : _≡_ {A = ℕ} 0 1 = cc in omega arith), λ f i m. refl)

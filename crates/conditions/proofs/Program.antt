@@ -20,10 +20,10 @@ use Rattle.submission.specs.Record.{entries, steps, entryAt, ruleAt, pAt, qAt, 
 use Rattle.derivation.specs.Register.{registerTerm, written, isKnown}
 use Rattle.derivation.specs.Step.{secondAt}
 use Rattle.derivation.proofs.Register.{entry-register, guess-register, result-register}
-use Rattle.machine.specs.Program.{bytesOf, programLength, instructionAt, operand}
+use Rattle.program.specs.Program.{bytesOf, programLength, instructionAt, operand}
 use Rattle.machine.specs.Run.{guessed, executed, registers}
-use Rattle.machine.proofs.Program.{program-length, instruction-back}
-use Rattle.machine.proofs.Registers.{register-kept, register-written, register-entry, register-guess}
+use Rattle.program.proofs.theory.Bytes.{program-length, instruction-back}
+use Rattle.machine.proofs.theory.RunRegisters.{register-kept, register-written, register-entry, register-guess}
 use Rattle.conditions.specs.Condition.{rule, first as firstTerm, second, concluded}
 use Rattle.conditions.specs.Page.{lowest, instruction, program}
 

@@ -8,7 +8,7 @@ use lib.Seq.{take-at, drop-at}
 use Rattle.base.specs.Answer.{done}
 use Rattle.base.specs.Bytes.{Bytes}
 use Rattle.submission.specs.Record.{steps, guess, nameAt}
-use Rattle.machine.specs.Program.{bytesOf, programLength}
+use Rattle.program.specs.Program.{bytesOf, programLength}
 use Rattle.machine.specs.Run.{signal, runAnswer}
 use Rattle.conditions.specs.Check.{checkAnswer}
 use Rattle.conditions.specs.Condition.{WellFormed, FiveConditions}

@@ -11,13 +11,13 @@ use lib.ListN.{length}
 use Rattle.base.specs.First.{first}
 use Rattle.base.specs.Answer.{refused, andThen, pageAfter}
 use Rattle.submission.specs.Record.{terms, entries, steps, verifying, wayAt}
-use Rattle.submission.specs.Claim.{wayOf}
+use Rattle.submission.specs.Way.{wayOf}
 use Rattle.submission.specs.Contents.{badContents, check1, badCount, check2}
 use Rattle.submission.specs.Check.{badTerm, check3, badKnowledge, check4, goodClaim, check5, checks1to4, checks1to5}
 use Rattle.base.proofs.AnswerLaws.{FailsWith, passes-with, fails-with, if-with, at-with, then-with, refused-with}
 use Rattle.derivation.specs.Step.{badStep, unfounded, stepFault, checkSteps}
 use Rattle.deduction.specs.Deduce.{deducibleAnswer}
-use Rattle.machine.specs.Program.{bytesOf, programLength, badProgram, check13}
+use Rattle.program.specs.Program.{bytesOf, programLength, badProgram, check13}
 use Rattle.machine.specs.Run.{signal, runAnswer}
 use Rattle.conditions.specs.Check.{reachable, check8, hasSecondWay, check9, undone, check10, check11, checks1to10, checkAnswer}
 use Rattle.conditions.specs.Page.{program, pageChecked}

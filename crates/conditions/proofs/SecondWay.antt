@@ -16,7 +16,8 @@ use Rattle.term.specs.Rule.{hasOne}
 use Rattle.submission.specs.declared.Claim.{Claim}
 use Rattle.submission.specs.Contents.{Limited}
 use Rattle.submission.specs.Record.{entries, steps, pAt, wayAt, companion, areInverse}
-use Rattle.submission.specs.Claim.{another-step, at-start, inverse-key, wayOf}
+use Rattle.submission.specs.declared.Way.the-variants.{AnotherStep, AtStart, InverseKey}
+use Rattle.submission.specs.Way.{wayOf}
 use Rattle.submission.specs.Code.{IsClaim}
 use Rattle.derivation.specs.declared.Step.{Step}
 use Rattle.derivation.specs.declared.Registers.{Registers}
@@ -99,37 +100,18 @@ module _ {s : List ℕ} {g : Registers} (h : Limited s) (w : Registered s (writt
   pub known-at-end : ltb r (g .used) ≡ isKnown s (steps s) t
   known-at-end = known-before (steps s) (g .used) (omega arith) (w .used)
 
--- ---- the ways by their letters
+-- ---- the ways
 module _ {s : List ℕ} {c : Claim} (h : IsClaim s c) where
-  pub is-a : c .way ≡ 0x61 → wayOf (wayAt s) ≡ some another-step
-  unfolding wayOf
-  is-a e = rw (← (h .way), e)
-
-  pub is-b : c .way ≡ 0x62 → wayOf (wayAt s) ≡ some at-start
-  unfolding wayOf
-  is-b e = rw (← (h .way), e)
-
-  pub is-c : c .way ≡ 0x63 → wayOf (wayAt s) ≡ some inverse-key
-  unfolding wayOf
-  is-c e = rw (← (h .way), e)
-
-  pub is-none : (c .way ≡ 0x61 → ⊥) → (c .way ≡ 0x62 → ⊥) → (c .way ≡ 0x63 → ⊥) → wayOf (wayAt s) ≡ none
-  unfolding wayOf
-  is-none a b d = rw (← (h .way), ne-eqb _ _ a, ne-eqb _ _ b, ne-eqb _ _ d)
-
-  pub by-another-step : {r : Bool} → c .way ≡ 0x61 → r ≡ otherWay s (c .step) (c .companion) → r ≡ hasSecondWay s (wayOf (wayAt s))
-  by-another-step e f = rw (is-a e, ← (h .step), ← (h .other)) f
+  pub by-another-step : {r : Bool} → c .way ≡ AnotherStep → r ≡ otherWay s (c .step) (c .companion) → r ≡ hasSecondWay s (wayOf (wayAt s))
+  by-another-step e f = rw (h .way, e, ← (h .step), ← (h .other)) f
 
   module _ {st : Step} (k : IsStep s (c .step) st) where
-    pub by-start : {r : Bool} → c .way ≡ 0x62 → r ≡ isKnown s 0 (st .conclusion) → r ≡ hasSecondWay s (wayOf (wayAt s))
-    by-start e f = rw (is-b e, ← (h .step), ← (k .conclusion)) f
+    pub by-start : {r : Bool} → c .way ≡ AtStart → r ≡ isKnown s 0 (st .conclusion) → r ≡ hasSecondWay s (wayOf (wayAt s))
+    by-start e f = rw (h .way, e, ← (h .step), ← (k .conclusion)) f
 
-    pub by-inverse : {r : Bool} → c .way ≡ 0x63 → r ≡ (areInverse s (st .conclusion) (c .companion) && isKnown s (steps s) (c .companion)) → r ≡ hasSecondWay s (wayOf (wayAt s))
-    by-inverse e f = rw (is-c e, ← (h .step), ← (k .conclusion), ← (h .other)) f
-
-  pub by-none : (c .way ≡ 0x61 → ⊥) → (c .way ≡ 0x62 → ⊥) → (c .way ≡ 0x63 → ⊥) → false ≡ hasSecondWay s (wayOf (wayAt s))
-  by-none a b d = rw (is-none a b d)
+    pub by-inverse : {r : Bool} → c .way ≡ InverseKey → r ≡ (areInverse s (st .conclusion) (c .companion) && isKnown s (steps s) (c .companion)) → r ≡ hasSecondWay s (wayOf (wayAt s))
+    by-inverse e f = rw (h .way, e, ← (h .step), ← (k .conclusion), ← (h .other)) f
 
 pub ruleset premises = (first-premise, second-premise, both-premises, no-premise, other-conclusion, other-rule, other-premises)
 
-pub ruleset ways = (known-at-start, known-at-end, by-another-step, by-start, by-inverse, by-none)
+pub ruleset ways = (known-at-start, known-at-end, by-another-step, by-start, by-inverse)

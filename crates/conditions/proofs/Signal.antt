@@ -22,19 +22,20 @@ use Rattle.term.proofs.Reach.{Reach, known, reach-iff}
 use Rattle.term.proofs.Guess.{UndoesSome, OutOfReach, FreshGuess, MayHold, clean, tried, Executed, op-may-hold, another-step-differs, at-start-differs, verified-no-key}
 use Rattle.base.specs.Bytes.{Bytes}
 use Rattle.submission.specs.Record.{entries, steps, entryAt, ruleAt, pAt, qAt, conclusionAt, guess, verifying, wayAt, companion, nameAt, term, areInverse, InKnowledge}
-use Rattle.submission.specs.Claim.{Way, another-step, at-start, inverse-key, wayOf}
+use Rattle.submission.specs.Way.{Way, another-step, at-start, inverse-key, wayOf}
 use Rattle.submission.proofs.Listed.{Claimed, claimed}
 use Rattle.derivation.specs.Register.{written, isKnown}
 use Rattle.derivation.specs.Step.{secondAt}
 use Rattle.derivation.proofs.Register.{says-known, result-register}
 use Rattle.derivation.proofs.Founded.{Sound, sound, founded-iff}
-use Rattle.machine.specs.Program.{bytesOf, relationOf, isTest, badInstruction, badTest, badProgram}
+use Rattle.program.specs.Tests.{relationOf, registersOf, rowOf}
+use Rattle.program.specs.Program.{bytesOf, badInstruction, badTest, badProgram}
 use Rattle.machine.specs.Run.{atomKind, guessed, holds as relates, signals, signal}
-use Rattle.machine.proofs.Program.{byte-count, test-back, program-passes}
-use Rattle.machine.proofs.Registers.{register-entry, register-guess, says-equal, says-inverse}
+use Rattle.program.proofs.theory.Bytes.{byte-count, test-back, program-passes}
+use Rattle.machine.proofs.theory.RunRegisters.{register-entry, register-guess, says-equal, says-inverse}
 use Rattle.conditions.specs.Check.{hasSecondWay}
 use Rattle.conditions.specs.Condition.{WellFormed, FiveConditions, Differs, SecondWay, UndoesNone, rule, first, second, concluded}
-use Rattle.conditions.specs.Page.{lowest, instruction, program, testOf, testLetter, testSecond}
+use Rattle.conditions.specs.Page.{lowest, instruction, program, testFor, claimTest}
 use Rattle.conditions.specs.Wrong.{WrongGuess}
 use Rattle.conditions.proofs.AcceptanceConditions.{founded-terms, second-way-iff}
 use Rattle.conditions.proofs.Program.{lowest-known, program-steps, value, result, same-operand, holds, holds-lowest}
@@ -58,10 +59,10 @@ unlike s i j (inr f) a b d = f (λ x. (⊎-elim (λ e. inl (e ∙ b)) (λ e. inr
 -- what the program's test asks of the registers
 module _ (s : List ℕ) (name : ℕ) where
   abbrev asked : Option Way → Bool
-  asked o = relates (relationOf (testLetter o)) (value s name (steps s) (written s (verifying s))) (value s name (steps s) (testSecond s o))
+  asked o = relates (relationOf (testFor s o .letter)) (value s name (steps s) (testFor s o .left)) (value s name (steps s) (testFor s o .right))
 
   signal-asks : signal s name (bytesOf (program s)) ≡ cond (asked (wayOf (wayAt s))) 1 0
-  unfolding signal signals program testOf
+  unfolding signal signals program claimTest
   signal-asks = rw (byte-count (program s), program-steps s, test-back (program s))
 
 module _ (s : List ℕ) (bytes : Bytes s) (w : WellFormed s) (c : FiveConditions s) where
@@ -99,21 +100,22 @@ module _ (s : List ℕ) (bytes : Bytes s) (w : WellFormed s) (c : FiveConditions
       go true h = refl
       go false h = rw (lt-ltb (lowest s (qAt s i)) (written s i) h)
 
-  test-good : (o : Option Way) → wayOf (wayAt s) ≡ o → SecondWay s o → (isTest (relationOf (testLetter o)) ≡ true) × (testSecond s o < written s (steps s))
+  test-good : (o : Option Way) → wayOf (wayAt s) ≡ o → SecondWay s o →
+      (registersOf (relationOf (testFor s o .letter)) ≡ 2) × (testFor s o .left < written s (steps s)) × (testFor s o .right < written s (steps s))
   unfolding relationOf
   test-good none e z = absurd z
-  test-good (some another-step) e (l, f, d) = (refl, omega arith)
-  test-good (some at-start) e z = let (f, b) = lowest-known s 0 _ (omega arith) (way-found e) in (refl, omega arith)
-  test-good (some inverse-key) e z = (refl, lowest-known s (steps s) _ (omega arith) (inverse-known e) .1)
+  test-good (some another-step) e (l, f, d) = (refl, omega (arith, c .present), omega arith)
+  test-good (some at-start) e z = let (f, b) = lowest-known s 0 _ (omega arith) (way-found e) in (refl, omega (arith, c .present), omega arith)
+  test-good (some inverse-key) e z = (refl, omega (arith, c .present), lowest-known s (steps s) _ (omega arith) (inverse-known e) .1)
 
   pub program-good : badProgram s (bytesOf (program s)) ≡ false
-  unfolding badTest program testOf
+  unfolding badTest program claimTest
   program-good =
-      let (a, b) = test-good (wayOf (wayAt s)) refl (c .secondWay) in
+      let (a, l, r) = test-good (wayOf (wayAt s)) refl (c .secondWay) in
       let e : length (listed (instruction s) (steps s)) ≡ steps s = length-listed (instruction s) (steps s) in
       program-passes (program s) s (instruction s 0) (rw e (claim .read .steps-most))
       (λ i l. let h : i < steps s = rw e at l in ap (badInstruction (written s i)) (listed-at (instruction s) i (steps s) (instruction s 0) h) ∙ instruction-good i h)
-      (rw (e, a, lt-ltb (written s (verifying s)) (written s (steps s)) (let h = c .present in omega arith), lt-ltb (testSecond s (wayOf (wayAt s))) (written s (steps s)) b))
+      (rw (e, a, lt-ltb _ (written s (steps s)) l, lt-ltb _ (written s (steps s)) r))
 
   -- ---- the right guess: each register holds its term
   abbrev right : ℕ

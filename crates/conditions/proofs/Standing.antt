@@ -9,7 +9,7 @@ use Rattle.submission.specs.declared.Claim.{Claim}
 use Rattle.base.specs.Answer.{fails, failsIf}
 use Rattle.submission.specs.Contents.{Limited}
 use Rattle.submission.specs.Record.{terms, steps, verifying, wayAt}
-use Rattle.submission.specs.Claim.{wayOf}
+use Rattle.submission.specs.Way.{wayOf}
 use Rattle.submission.specs.Check.{checks1to5}
 use Rattle.submission.specs.Code.{IsClaim}
 use Rattle.base.proofs.AnswerLaws.{then-passes, if-passes}

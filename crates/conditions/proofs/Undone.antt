@@ -13,13 +13,13 @@ use Rattle.term.specs.Term.{head?, test, Cipher, symmetric, asymmetric, left, r
 use Rattle.term.specs.Rule.{headOf, ruleOf}
 use Rattle.term.proofs.Rule.{rule-head}
 use Rattle.submission.specs.declared.Claim.{Claim}
-use Rattle.submission.specs.Claim.{at-start, inverse-key, wayOf}
-use Rattle.submission.specs.Code.{IsClaim}
+use Rattle.submission.specs.declared.Row.{Row as RowRead}
+use Rattle.submission.specs.Way.{row}
+use Rattle.submission.specs.Code.{wayIs, rowIs, IsClaim}
 use Rattle.derivation.specs.declared.Step.{Step}
 use Rattle.derivation.specs.Code.{IsStep}
 use Rattle.conditions.specs.Check.{undoes, undoesStep, companionUndoes, undone}
 use Rattle.conditions.specs.Code.{takesApart}
-use Rattle.conditions.proofs.SecondWay.{is-a}
 
 -- ---- heads by their rules' numbers; a number above 6 reads as 6
 head-rule : (h : Head) → headOf (ruleOf h) ≡ h
@@ -147,28 +147,19 @@ module _ {s : List ℕ} {j i : ℕ} {a b : Step} (h : IsStep s j a) (k : IsStep 
       pub step-neither : y ≡ false → false ≡ undoesStep s j i
       step-neither f = undoes-neither (a .p) (a .conclusion) (b .p) (b .conclusion) (headOf (a .rule)) (headOf (b .rule)) (sym e ∙ n) (sym g ∙ f) ∙ same-undoes
 
--- ---- the verifying step, and in way a the companion
-only-in-a : (s : List ℕ) (k i : ℕ) → (k ≡ 0x61 → ⊥) → companionUndoes s (wayOf k) i ≡ false
-unfolding wayOf
-only-in-a s k i n = rw (ne-eqb k 0x61 n) (go (eqb k 0x62) (eqb k 0x63))
-  where
-    go : (x y : Bool) → companionUndoes s (cond x (some at-start) (cond y (some inverse-key) none)) i ≡ false
-    go true y = refl
-    go false true = refl
-    go false false = refl
-
+-- ---- the verifying step, and where the way's row x asks for it the companion
 module _ {s : List ℕ} {c : Claim} (h : IsClaim s c) (i : ℕ) {x : Bool} (e : x ≡ undoesStep s (c .step) i) where
   pub by-verifying : x ≡ true → true ≡ undone s i
   unfolding undone
   by-verifying f = rw (← (h .step), ← e, f)
 
-  module _ (n : x ≡ false) where
-    pub by-companion : {y : Bool} → c .way ≡ 0x61 → y ≡ undoesStep s (c .companion) i → y ≡ undone s i
+  module _ (n : x ≡ false) (w : RowRead) (q : rowIs w ≡ row (wayIs (c .way))) where
+    pub by-companion : {y : Bool} → w .kept ≡ true → y ≡ undoesStep s (c .companion) i → y ≡ undone s i
     unfolding undone
-    by-companion w g = rw (← (h .step), ← e, n, is-a h w, ← (h .other)) g
+    by-companion k g = let z : row (wayIs (c .way)) .companionKept ≡ true = sym (ap (λ r. r .companionKept) q) ∙ k in rw (← (h .step), ← e, n, h .way, z, ← (h .other)) g
 
-    pub by-neither : (c .way ≡ 0x61 → ⊥) → false ≡ undone s i
+    pub by-neither : w .kept ≡ false → false ≡ undone s i
     unfolding undone
-    by-neither w = rw (← (h .step), ← e, n, ← (h .way)) (sym (only-in-a s (c .way) i w))
+    by-neither k = let z : row (wayIs (c .way)) .companionKept ≡ false = sym (ap (λ r. r .companionKept) q) ∙ k in rw (← (h .step), ← e, n, h .way, z)
 
 pub ruleset undoing = (fst-takes, snd-takes, dec-takes, deca-takes, none-takes, step-builder, step-taker, step-neither, by-verifying, by-companion, by-neither)

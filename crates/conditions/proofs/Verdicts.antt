@@ -6,6 +6,10 @@ use mir.Syntax.{w8}
 use mir.Val.{Fits}
 use lib.ListN.{length, drop}
 use borrow.Author.Tests.{lt-ltb, le-ltb, ltb-false}
+use Rattle.submission.specs.declared.Claim.{Claim}
+use Rattle.submission.specs.declared.Reading.{Reading}
+use Rattle.submission.specs.declared.Reading.the-variants.{Good, Refused as ReadingRefused}
+use Rattle.submission.specs.Code.{IsClaim, readingCheck, ReadingIs}
 use Rattle.base.specs.declared.Stage.{Stage}
 use Rattle.base.specs.declared.Stage.the-variants as stage
 use Rattle.base.specs.Answer.{Answer, done, refused, Check, passes, fails, andThen, answered}
@@ -20,7 +24,7 @@ use Rattle.submission.proofs.Passing.{body-passes, limited}
 use Rattle.derivation.specs.declared.Checked.{Checked as StepsRun}
 use Rattle.derivation.specs.Register.{written}
 use Rattle.derivation.specs.Code.{Registered, StepsChecked}
-use Rattle.machine.specs.Program.{bytesOf, programLength}
+use Rattle.program.specs.Program.{bytesOf, programLength}
 use Rattle.conditions.specs.declared.Verdict.{Verdict}
 use Rattle.conditions.specs.declared.Verdict.the-variants.{Accepted, Refused}
 use Rattle.conditions.specs.Check.{check8, check9, check10, check11, checks1to10, checkAnswer}
@@ -64,50 +68,60 @@ said number place e q = sym e ∙ ap checkOf q
 of-refusal : {r : Stage} {w : Answer} (n number place : ℕ) → w ≡ answered (checkOf r) (done n) → r ≡ stage.Refused number place → w ≡ refused number place
 of-refusal n number place f q = f ∙ ap (λ x. answered (checkOf x) (done n)) q
 
-module _ (s : List ℕ) {r : Stage} (reading : checkOf r ≡ checks1to5 s) where
-  pub reading-out : (page : List ℕ) (n : ℕ) {a b : ℕ} (v : Verdict) → r ≡ stage.Refused a b → verdictAnswer v ≡ answered (checkOf r) (done n) → Checked s page v page
+module _ (s : List ℕ) {r : Reading} (reading : ReadingIs s (checks1to5 s) r) where
+  pub reading-out : (page : List ℕ) (n : ℕ) {a b : ℕ} (st : Stage) (v : Verdict) → r ≡ ReadingRefused a b → checkOf st ≡ readingCheck r →
+      verdictAnswer v ≡ answered (checkOf st) (done n) → Checked s page v page
   unfolding all checks1to10
-  reading-out page n {a} {b} v q f = refused-out s page a b v (rw (said a b reading q)) (of-refusal n a b f q)
+  reading-out page n {a} {b} st v q e f =
+      let g : checkOf st ≡ fails a b = e ∙ ap readingCheck q in
+      refused-out s page a b v (rw (sym (reading .answer) ∙ ap readingCheck q)) (f ∙ ap (λ x. answered x (done n)) g)
 
-  module _ (read : r ≡ stage.Passed) where
+  module _ {k : Claim} (read : r ≡ Good k) where
+    reading-passes : checks1to5 s ≡ passes
+    reading-passes = sym (reading .answer) ∙ ap readingCheck read
+
     pub reading-limited : Limited s
-    reading-limited = limited s (body-passes s (stage-passes _ reading read))
+    reading-limited = limited s (body-passes s reading-passes)
+
+    pub reading-claim : IsClaim s k
+    reading-claim = reading .claim k read
 
     module _ {z : StepsRun} (each : StepsChecked s z) where
       pub steps-out : (page : List ℕ) (n : ℕ) {a b : ℕ} (v : Verdict) → z .stage ≡ stage.Refused a b → verdictAnswer v ≡ answered (checkOf (z .stage)) (done n) → Checked s page v page
       unfolding all checks1to10
       steps-out page n {a} {b} v q f =
-          refused-out s page a b v (rw (stage-passes _ reading read, said a b (each .answer) q)) (of-refusal n a b f q)
+          refused-out s page a b v (rw (reading-passes, said a b (each .answer) q)) (of-refusal n a b f q)
 
       module _ (passed : z .stage ≡ stage.Passed) where
         pub steps-registered : Registered s (written s (steps s)) (z .registers)
         steps-registered = each .registers passed
 
         pub steps-founded : ((i : ℕ) → Fits w8 (byte s i)) → Founded s
-        steps-founded f = record { bytes = bytes s f; read = stage-passes _ reading read; founded = stage-passes _ (each .answer) passed }
+        steps-founded f = record { bytes = bytes s f; read = reading-passes; founded = stage-passes _ (each .answer) passed }
 
         module _ {t : Stage} (conditions : checkOf t ≡ andThen (check8 s) (andThen (check9 s) (check10 s))) where
           pub conditions-out : (page : List ℕ) (n : ℕ) {a b : ℕ} (v : Verdict) → t ≡ stage.Refused a b → verdictAnswer v ≡ answered (checkOf t) (done n) → Checked s page v page
           unfolding all checks1to10
           conditions-out page n {a} {b} v q f =
-              refused-out s page a b v (rw (stage-passes _ reading read, stage-passes _ (each .answer) passed, said a b conditions q)) (of-refusal n a b f q)
+              refused-out s page a b v (rw (reading-passes, stage-passes _ (each .answer) passed, said a b conditions q)) (of-refusal n a b f q)
 
           module _ (met : t ≡ stage.Passed) where
-            pub met-passes : checks1to10 s ≡ passes
+            met-passes : checks1to10 s ≡ passes
             unfolding checks1to10
-            met-passes = rw (stage-passes _ reading read, stage-passes _ (each .answer) passed) (stage-passes _ conditions met)
+            met-passes = rw (reading-passes, stage-passes _ (each .answer) passed) (stage-passes _ conditions met)
 
             pub met-acceptable : ((i : ℕ) → Fits w8 (byte s i)) → Acceptable s
             met-acceptable f = record { bytes = bytes s f; passed = met-passes }
 
-            module _ (page : List ℕ) {u : Stage} (room : checkOf u ≡ check11 s (length page)) where
-              pub page-out : (n : ℕ) {a b : ℕ} (v : Verdict) → u ≡ stage.Refused a b → verdictAnswer v ≡ answered (checkOf u) (done n) → Checked s page v page
-              unfolding all
-              page-out n {a} {b} v q f = refused-out s page a b v (rw (met-passes, said a b room q)) (of-refusal n a b f q)
+-- ---- a submission that passed checks 1 to 10
+module _ {s : List ℕ} (h : Acceptable s) (page : List ℕ) {u : Stage} (room : checkOf u ≡ check11 s (length page)) where
+  pub page-out : (n : ℕ) {a b : ℕ} (v : Verdict) → u ≡ stage.Refused a b → verdictAnswer v ≡ answered (checkOf u) (done n) → Checked s page v page
+  unfolding all
+  page-out n {a} {b} v q f = refused-out s page a b v (rw (h .passed, said a b room q)) (of-refusal n a b f q)
 
-              pub page-written : {n : ℕ} {page′ : List ℕ} → u ≡ stage.Passed → n ≡ steps s → page′ ≡ bytesOf (program s) ++ drop (programLength (steps s)) page → Checked s page (Accepted n) page′
-              unfolding all
-              page-written q e f = accepted-out s page (rw met-passes (stage-passes _ room q)) e f
+  pub page-written : {n : ℕ} {page′ : List ℕ} → u ≡ stage.Passed → n ≡ steps s → page′ ≡ bytesOf (program s) ++ drop (programLength (steps s)) page → Checked s page (Accepted n) page′
+  unfolding all
+  page-written q e f = accepted-out s page (rw (h .passed) (stage-passes _ room q)) e f
 
 -- ---- the answer that a verdict stands for
 pub answer-accepted : {v : Verdict} {n m : ℕ} → v ≡ Accepted n → m ≡ n → done m ≡ verdictAnswer v

@@ -9,12 +9,12 @@ use Rattle.term.specs.Term.{head?, test, Head, pair, part, encrypt, decrypt, le
 use Rattle.term.specs.Rule.{headOf}
 use Rattle.base.specs.Answer.{Answer, done, Check, failsAt, failsIf, andThen, answered}
 use Rattle.submission.specs.Record.{steps, ruleAt, pAt, conclusionAt, verifying, wayAt, companion, areInverse}
-use Rattle.submission.specs.Claim.{Way, another-step, at-start, inverse-key, wayOf}
+use Rattle.submission.specs.Way.{Way, another-step, at-start, inverse-key, wayOf, row}
 use Rattle.submission.specs.Check.{checks1to5}
 use Rattle.derivation.specs.Register.{isKnown}
 use Rattle.derivation.specs.Step.{secondAt, checkSteps}
 use Rattle.deduction.specs.Deduce.{entryMarks, isDeducible}
-use Rattle.machine.specs.Program.{programLength}
+use Rattle.program.specs.Program.{programLength}
 
 -- 8 reachable: "condition 3 broken"; every premise of the verifying step is deducible from the knowledge, in which the guess does not count
 unfoldable pub reachable : List ℕ → Bool
@@ -58,9 +58,7 @@ undoesStep s j i = undoes (headOf (ruleAt s j)) (pAt s j) (conclusionAt s j) (he
 -- in way a the companion must undo nothing either
 abbrev pub companionUndoes : List ℕ → Option Way → ℕ → Bool
 companionUndoes s none i = false
-companionUndoes s (some another-step) i = undoesStep s (companion s) i
-companionUndoes s (some at-start) i = false
-companionUndoes s (some inverse-key) i = false
+companionUndoes s (some w) i = row w .companionKept && undoesStep s (companion s) i
 
 unfoldable pub undone : List ℕ → ℕ → Bool
 undone s i = undoesStep s (verifying s) i || companionUndoes s (wayOf (wayAt s)) i

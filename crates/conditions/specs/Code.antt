@@ -1,13 +1,15 @@
 -- What the code's tests and requirements mean in document 01's terms.
 use mathlib.Core.Path.{_≡_}
-use mathlib.Core.Bool.{Bool, false, _&&_, _||_, not}
+use mathlib.Core.Bool.{Bool, true, false, _&&_, _||_, not}
 use mathlib.Core.List.{List}
-use Prim.Native.Nat.{ℕ}
+use Prim.Native.Nat.{ℕ, _<_}
 use lib.Dec.{eqb}
 use Rattle.term.specs.Term.{head?, test, Head, pair, part, encrypt, decrypt, left, right}
 use Rattle.base.specs.Answer.{passes}
 use Rattle.base.specs.Bytes.{Bytes}
-use Rattle.submission.specs.Record.{ruleAt, conclusionAt}
+use Rattle.submission.specs.Record.{steps, ruleAt, conclusionAt, verifying, companion}
+use Rattle.submission.specs.Way.{Operand, verifying-result, companion-result, lowest-conclusion, lowest-companion}
+use Rattle.derivation.specs.Register.{isKnown}
 use Rattle.submission.specs.Check.{checks1to5}
 use Rattle.derivation.specs.Step.{checkSteps}
 use Rattle.conditions.specs.Check.{samePremises, checks1to10}
@@ -34,3 +36,10 @@ takesApart h pair = test (head? h (part left)) || test (head? h (part right))
 takesApart h (part i) = false
 takesApart h (encrypt c) = test (head? h (decrypt c))
 takesApart h (decrypt c) = false
+
+-- the register that a test names can be found: its step is one of the derivation, or its term is known after the last step
+abbrev pub Held : List ℕ → Operand → Type 0
+Held s verifying-result = verifying s < steps s
+Held s companion-result = companion s < steps s
+Held s lowest-conclusion = isKnown s (steps s) (conclusionAt s (verifying s)) ≡ true
+Held s lowest-companion = isKnown s (steps s) (companion s) ≡ true

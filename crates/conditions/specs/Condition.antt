@@ -10,7 +10,7 @@ use Rattle.term.specs.Rule.{headOf}
 use Rattle.term.specs.Step.{Deducible, Undoes}
 use Rattle.base.specs.Answer.{passes}
 use Rattle.submission.specs.Record.{steps, ruleAt, pAt, conclusionAt, guess, verifying, wayAt, companion, term, InKnowledge}
-use Rattle.submission.specs.Claim.{Way, another-step, at-start, inverse-key, wayOf}
+use Rattle.submission.specs.Way.{Way, another-step, at-start, inverse-key, wayOf}
 use Rattle.submission.specs.Check.{checks1to5}
 use Rattle.derivation.specs.Step.{secondAt, badStep}
 

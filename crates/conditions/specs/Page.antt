@@ -8,9 +8,10 @@ use Rattle.base.specs.Grow.{listed}
 use Rattle.term.specs.Rule.{hasOne}
 use Rattle.base.specs.Answer.{pageAfter}
 use Rattle.submission.specs.Record.{steps, ruleAt, pAt, qAt, conclusionAt, verifying, wayAt, companion}
-use Rattle.submission.specs.Claim.{Way, another-step, at-start, inverse-key, wayOf}
+use Rattle.submission.specs.Way.{Way, wayOf, Operand, verifying-result, companion-result, lowest-conclusion, lowest-companion, row}
 use Rattle.derivation.specs.Register.{written, lowestOf}
-use Rattle.machine.specs.Program.{Instruction, Test, Program, bytesOf}
+use Rattle.program.specs.Tests.{rowOf}
+use Rattle.program.specs.Program.{Instruction, Test, Program, bytesOf}
 use Rattle.conditions.specs.Check.{checkAnswer}
 
 -- "K+1+i the result of step i"
@@ -30,31 +31,28 @@ unfoldable pub instruction : List ℕ → ℕ → Instruction
 instruction s i =
     record {
       rule = ruleAt s i;
-      first = lowest s (pAt s i);
-      second = cond (hasOne (ruleAt s i)) 0 (lowest s (qAt s i));
+      left = lowest s (pAt s i);
+      right = cond (hasOne (ruleAt s i)) 0 (lowest s (qAt s i));
     }
 
--- "The test names the verifying step's register first, then: way a, the companion step's;
--- b, the lowest register holding v; c, the lowest holding the inverse, with `i`."
-abbrev pub testLetter : Option Way → ℕ
-testLetter none = 0x3D
-testLetter (some another-step) = 0x3D
-testLetter (some at-start) = 0x3D
-testLetter (some inverse-key) = 0x69
+-- the register that a test of the claim names
+abbrev pub named : List ℕ → Operand → ℕ
+named s verifying-result = resultRegister s (verifying s)
+named s companion-result = resultRegister s (companion s)
+named s lowest-conclusion = lowest s (conclusionAt s (verifying s))
+named s lowest-companion = lowest s (companion s)
 
-abbrev pub testSecond : List ℕ → Option Way → ℕ
-testSecond s none = 0
-testSecond s (some another-step) = resultRegister s (companion s)
-testSecond s (some at-start) = lowest s (conclusionAt s (verifying s))
-testSecond s (some inverse-key) = lowest s (companion s)
+-- the test of the claim's way; where there is none, 0 is no test's letter
+abbrev pub testFor : List ℕ → Option Way → Test
+testFor s none = record { letter = 0; left = 0; right = 0 }
+testFor s (some w) = record { letter = rowOf (row w .relation) .letter; left = named s (row w .tested); right = named s (row w .against) }
 
-unfoldable pub testOf : List ℕ → Test
-testOf s =
-    record { letter = testLetter (wayOf (wayAt s)); first = resultRegister s (verifying s); second = testSecond s (wayOf (wayAt s)) }
+unfoldable pub claimTest : List ℕ → Test
+claimTest s = testFor s (wayOf (wayAt s))
 
 -- document 01's register program for the submission
 unfoldable pub program : List ℕ → Program
-program s = record { steps = listed (instruction s) (steps s); test = testOf s }
+program s = record { steps = listed (instruction s) (steps s); test = claimTest s }
 
 -- The page after checking. "An acceptance .. changes the first 3N+4 bytes of the page only."
 unfoldable pub pageChecked : List ℕ → List ℕ → List ℕ

@@ -1,14 +1,17 @@
 // Conditions 3 to 5: checks 8 to 10, in this order.
 use base::Stage;
 use derivation::Registers;
+use submission::Claim;
+use submission::Way;
 ghost use mathlib.Core.Path.{_≡_};
 ghost use mathlib.Core.Bool.{_&&_};
 ghost use Rattle.term.specs.Rule.{headOf};
 ghost use Rattle.submission.specs.Contents.{Limited};
 ghost use Rattle.submission.specs.Record.{steps, pAt, wayAt, areInverse};
-ghost use Rattle.submission.specs.Claim.{wayOf};
+ghost use Rattle.submission.specs.Way.{wayOf};
 ghost use Rattle.base.specs.Answer.{andThen};
 ghost use Rattle.base.specs.Code.{checkOf};
+ghost use Rattle.submission.specs.Code.{IsClaim};
 ghost use Rattle.derivation.specs.Register.{written, isKnown};
 ghost use Rattle.derivation.specs.Step.{secondAt};
 ghost use Rattle.derivation.specs.Code.{Registered};
@@ -16,22 +19,22 @@ ghost use Rattle.conditions.specs.Check.{reachable, isPremise, samePremi
 ghost use Rattle.conditions.specs.Code.{Founded, takesApart, otherWay};
 
 // Condition 3 broken: both premises of the verifying step are deducible from the knowledge, without the guess.
-fn is_reachable(s: &[u8]) -> bool
+fn is_reachable(s: &[u8], claim: Claim) -> bool
     requires { ⌜ Founded (now s) ⌝ }
+    requires { ⌜ IsClaim (now s) claim ⌝ }
     ensures { λ r. ⌜ r ≡ reachable (now (s .entry)) ⌝ }
 {
-    let claim = submission::claim_of(s);
     let step = derivation::step_at(s, claim.step);
     deduction::are_deducible(s, step.p, derivation::second_of(step))
 }
 
 // Check 8.
-fn check_reachable(s: &[u8]) -> Stage
+fn check_reachable(s: &[u8], claim: Claim) -> Stage
     requires { ⌜ Founded (now s) ⌝ }
+    requires { ⌜ IsClaim (now s) claim ⌝ }
     ensures { λ r. ⌜ checkOf r ≡ check8 (now (s .entry)) ⌝ }
 {
-    let claim = submission::claim_of(s);
-    if is_reachable(s) {
+    if is_reachable(s, claim) {
         return Stage::Refused {
             number: 8,
             place: base::wide16(claim.step),
@@ -109,30 +112,29 @@ fn is_inverse_known(s: &[u8], registers: Registers, t: u8, j: u8) -> bool
 }
 
 // Condition 4.
-fn has_second_way(s: &[u8], registers: Registers) -> bool
+fn has_second_way(s: &[u8], registers: Registers, claim: Claim) -> bool
     requires { ⌜ Limited (now s) ⌝ }
     requires { ⌜ Registered (now s) (written (now s) (steps (now s))) registers ⌝ }
+    requires { ⌜ IsClaim (now s) claim ⌝ }
     ensures { λ r. ⌜ r ≡ hasSecondWay (now (s .entry)) (wayOf (wayAt (now (s .entry)))) ⌝ }
 {
-    let claim = submission::claim_of(s);
     let step = derivation::step_at(s, claim.step);
     let way = claim.way;
     match way {
-        b'a' => is_other_way(s, claim.step, claim.companion),
-        b'b' => is_known_at_start(s, registers, step.conclusion),
-        b'c' => is_inverse_known(s, registers, step.conclusion, claim.companion),
-        _ => false,
+        Way::AnotherStep => is_other_way(s, claim.step, claim.companion),
+        Way::AtStart => is_known_at_start(s, registers, step.conclusion),
+        Way::InverseKey => is_inverse_known(s, registers, step.conclusion, claim.companion),
     }
 }
 
 // Check 9.
-fn check_second_way(s: &[u8], registers: Registers) -> Stage
+fn check_second_way(s: &[u8], registers: Registers, claim: Claim) -> Stage
     requires { ⌜ Limited (now s) ⌝ }
     requires { ⌜ Registered (now s) (written (now s) (steps (now s))) registers ⌝ }
+    requires { ⌜ IsClaim (now s) claim ⌝ }
     ensures { λ r. ⌜ checkOf r ≡ check9 (now (s .entry)) ⌝ }
 {
-    let claim = submission::claim_of(s);
-    if has_second_way(s, registers) {
+    if has_second_way(s, registers, claim) {
         return Stage::Passed;
     }
     Stage::Refused {
@@ -169,27 +171,30 @@ fn undoes_step(s: &[u8], j: u8, i: u8) -> bool
 }
 
 // Whether the verifying step undoes step i, or in way a the companion does.
-fn is_undone(s: &[u8], i: u8) -> bool
+fn is_undone(s: &[u8], claim: Claim, i: u8) -> bool
+    requires { ⌜ IsClaim (now s) claim ⌝ }
     ensures { λ r. ⌜ r ≡ undone (now (s .entry)) i ⌝ }
 {
-    let claim = submission::claim_of(s);
     if undoes_step(s, claim.step, i) {
         return true;
     }
-    if claim.way == b'a' {
+    let way = claim.way;
+    let row = submission::row_of(way);
+    if row.kept {
         return undoes_step(s, claim.companion, i);
     }
     false
 }
 
 // Check 10.
-fn check_undone(s: &[u8]) -> Stage
+fn check_undone(s: &[u8], claim: Claim) -> Stage
+    requires { ⌜ IsClaim (now s) claim ⌝ }
     ensures { λ r. ⌜ checkOf r ≡ check10 (now (s .entry)) ⌝ }
 {
     let n = submission::steps(s);
     let mut i: u8 = 0;
     while i < n {
-        if is_undone(s, i) {
+        if is_undone(s, claim, i) {
             return Stage::Refused {
                 number: 10,
                 place: base::wide16(i),
@@ -201,18 +206,19 @@ fn check_undone(s: &[u8]) -> Stage
 }
 
 // Checks 8 to 10; a refusal goes straight out.
-pub fn check_conditions(s: &[u8], registers: Registers) -> Stage
+pub fn check_conditions(s: &[u8], registers: Registers, claim: Claim) -> Stage
     requires { ⌜ Founded (now s) ⌝ }
     requires { ⌜ Registered (now s) (written (now s) (steps (now s))) registers ⌝ }
+    requires { ⌜ IsClaim (now s) claim ⌝ }
     ensures { λ r. ⌜ checkOf r ≡ andThen (check8 (now (s .entry))) (andThen (check9 (now (s .entry))) (check10 (now (s .entry)))) ⌝ }
 {
-    let reachable = check_reachable(s);
+    let reachable = check_reachable(s, claim);
     let Stage::Passed = reachable else {
         return reachable;
     };
-    let second_way = check_second_way(s, registers);
+    let second_way = check_second_way(s, registers, claim);
     let Stage::Passed = second_way else {
         return second_way;
     };
-    check_undone(s)
+    check_undone(s, claim)
 }

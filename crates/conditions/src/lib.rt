@@ -5,8 +5,16 @@ mod page;
 
 use base::Answer;
 use base::Stage;
+use derivation::Registers;
+use submission::Claim;
+use submission::Reading;
 ghost use mathlib.Core.Path.{_≡_};
 ghost use lib.ListN.{length};
+ghost use Rattle.submission.specs.Record.{steps};
+ghost use Rattle.submission.specs.Code.{IsClaim};
+ghost use Rattle.derivation.specs.Register.{written};
+ghost use Rattle.derivation.specs.Code.{Registered};
+ghost use Rattle.conditions.specs.Code.{Acceptable};
 ghost use Rattle.base.specs.Answer.{done, answered};
 ghost use Rattle.base.specs.Code.{checkOf, answerOf};
 ghost use Rattle.conditions.specs.Check.{check11};
@@ -42,7 +50,7 @@ pub fn answer_of(verdict: Verdict) -> Answer
 fn check_page(s: &[u8], page: &[u8]) -> Stage
     ensures { λ r. ⌜ checkOf r ≡ check11 (now (s .entry)) (length (now (page .entry))) ⌝ }
 {
-    let needed = page::program_length(submission::steps(s));
+    let needed = program::program_length(submission::steps(s));
     if page.len() < needed as usize {
         return Stage::Refused {
             number: 11,
@@ -52,14 +60,30 @@ fn check_page(s: &[u8], page: &[u8]) -> Stage
     Stage::Passed
 }
 
+// Accepts a submission that passed checks 1 to 10, where the page has room: writes the register program at the page's start.
+fn accept(s: &[u8], registers: Registers, claim: Claim, page: &mut [u8]) -> Verdict
+    requires { ⌜ Acceptable (now s) ⌝ }
+    requires { ⌜ Registered (now s) (written (now s) (steps (now s))) registers ⌝ }
+    requires { ⌜ IsClaim (now s) claim ⌝ }
+    ensures { λ r. ⌜ Checked (now (s .entry)) (now (page .entry)) r (now (page .exit)) ⌝ }
+{
+    let count = submission::steps(s);
+    let room = check_page(s, page);
+    let Stage::Passed = room else {
+        return verdict_of(room, count);
+    };
+    page::write_program(s, registers, claim, page);
+    Verdict::Accepted(count)
+}
+
 // Checks a submission: the checks in order, a refusal straight out. Only an acceptance writes: the register program, at the page's start.
 pub fn check(s: &[u8], page: &mut [u8]) -> Verdict
     ensures { λ r. ⌜ Checked (now (s .entry)) (now (page .entry)) r (now (page .exit)) ⌝ }
 {
     let count = submission::steps(s);
     let reading = submission::check_reading(s);
-    let Stage::Passed = reading else {
-        return verdict_of(reading, count);
+    let Reading::Good(claim) = reading else {
+        return verdict_of(submission::stage_of(reading), count);
     };
     let checked = derivation::check_steps(s);
     let steps = checked.stage;
@@ -67,14 +91,9 @@ pub fn check(s: &[u8], page: &mut [u8]) -> Verdict
         return verdict_of(steps, count);
     };
     let registers = checked.registers;
-    let met = conditions::check_conditions(s, registers);
+    let met = conditions::check_conditions(s, registers, claim);
     let Stage::Passed = met else {
         return verdict_of(met, count);
     };
-    let room = check_page(s, page);
-    let Stage::Passed = room else {
-        return verdict_of(room, count);
-    };
-    page::write_program(s, registers, page);
-    Verdict::Accepted(count)
+    accept(s, registers, claim, page)
 }

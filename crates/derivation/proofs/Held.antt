@@ -14,10 +14,10 @@ use Rattle.base.specs.First.{firstFrom, first, isSome, any}
 use Rattle.base.proofs.First.{first-some}
 use Rattle.base.proofs.FirstMore.{first-kept, first-next, first-same}
 use Rattle.base.proofs.Order.{lt-or-ge}
-use Rattle.submission.specs.declared.Claim.{Claim}
+use Rattle.submission.specs.declared.ClaimBytes.{ClaimBytes}
 use Rattle.submission.specs.Contents.{Limited}
 use Rattle.submission.specs.Record.{entries, steps, entryAt}
-use Rattle.submission.specs.Code.{IsClaim}
+use Rattle.submission.specs.Code.{IsClaimBytes}
 use Rattle.derivation.specs.declared.Step.{Step}
 use Rattle.derivation.specs.declared.Registers.{Registers}
 use Rattle.derivation.specs.Register.{registerTerm, written, lowestOf}
@@ -108,7 +108,7 @@ module _ {s : List ℕ} {r r′ : Registers} (k : Limited s) {n i : ℕ} where
   pub entry-written : {t : ℕ} → n ≡ entries s → i < n → Registered s i r → t ≡ entryAt s i → Added r t r′ → Registered s (i + 1) r′
   entry-written e l h x a = registered-more (omega arith) h (x ∙ sym (entry-register s i (omega arith))) a
 
-  pub guess-written : {c : Claim} → n ≡ entries s → i ≤ n → n ≤ i → Registered s i r → IsClaim s c → Added r (c .guess) r′ → Registered s (entries s + 1) r′
+  pub guess-written : {c : ClaimBytes} → n ≡ entries s → i ≤ n → n ≤ i → Registered s i r → IsClaimBytes s c → Added r (c .guess) r′ → Registered s (entries s + 1) r′
   guess-written e l m h x a =
       let z : i ≡ entries s = omega arith in
       registered-more (omega arith) (rw z at h) (x .guessed ∙ sym (guess-register s)) a

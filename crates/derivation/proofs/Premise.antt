@@ -9,7 +9,7 @@ use lib.ListN.{getD}
 use borrow.Author.Tests.{not-false}
 use Rattle.base.proofs.Says.{says-and, says-true}
 use Rattle.base.proofs.First.{first-some}
-use Rattle.base.proofs.FirstMore.{first-kept, any-first}
+use Rattle.base.proofs.FirstMore.{first-kept, any-first, any-more}
 use Rattle.submission.specs.Record.{steps, pAt}
 use Rattle.derivation.specs.declared.Registers.{Registers}
 use Rattle.derivation.specs.Register.{written, lowestOf, isKnown}
@@ -38,3 +38,7 @@ module _ (s : List ℕ) (i t : ℕ) (l : i ≤ steps s) (k : isKnown s i t ≡ t
   known-held h m =
       let (q, e, b) = known-lowest in
       e ∙ ap some (sym (held-lowest h t m q e))
+
+-- what is known before a step is known before every later one
+pub known-stays : (s : List ℕ) (i j t : ℕ) → i ≤ j → isKnown s i t ≡ true → isKnown s j t ≡ true
+known-stays s i j t l k = any-more _ (written s i) (written s j) (omega arith) k

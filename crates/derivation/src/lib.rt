@@ -176,7 +176,7 @@ pub fn initial(s: &[u8]) -> Registers
     for i in 0..n {
         r = r.with(submission::entry_at(s, i));
     }
-    let claim = submission::claim_of(s);
+    let claim = submission::claim_bytes(s);
     r.with(claim.guess)
 }
 

@@ -1,11 +1,1 @@
-pub mod Executes
-pub mod Finds
-pub mod Keys
-pub mod Loads
-pub mod Nodes
-pub mod Program
-pub mod Reductions
-pub mod Refuse
-pub mod Registers
-pub mod Runs
-pub mod States
+pub mod theory

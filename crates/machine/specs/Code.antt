@@ -16,8 +16,6 @@ use Rattle.base.specs.Answer.{passes}
 use Rattle.base.specs.Bytes.{Bytes}
 use Rattle.submission.specs.Record.{kindOf, terms, entries, entryAt, atomic, shapeOf, term}
 use Rattle.submission.specs.Check.{checks1to5}
-use Rattle.machine.specs.declared.Instruction.{Instruction as InstructionRead}
-use Rattle.machine.specs.declared.Test.{Test as TestRead}
 use Rattle.machine.specs.declared.Node.{Node}
 use Rattle.machine.specs.declared.Machine.{Machine}
 use Rattle.machine.specs.declared.Found.{Found}
@@ -27,16 +25,10 @@ use Rattle.machine.specs.declared.Cipher.{Cipher}
 use Rattle.machine.specs.declared.Cipher.the-variants.{Symmetric, Asymmetric}
 use Rattle.machine.specs.declared.Side.{Side}
 use Rattle.machine.specs.declared.Side.the-variants.{Left, Right}
-use Rattle.machine.specs.Program.{Instruction, Test, operand}
+use Rattle.program.specs.Program.{Instruction, Test, operand}
 use Rattle.machine.specs.Run.{atomKind, initial, registers}
 
--- ---- a program's parts, and small enums
-abbrev pub instructionOf : InstructionRead → Instruction
-instructionOf i = record { rule = i .rule; first = i .first; second = i .second }
-
-abbrev pub testIn : TestRead → Test
-testIn t = record { letter = t .letter; first = t .first; second = t .second }
-
+-- ---- small enums
 abbrev pub cipherOf : Cipher → words.Cipher
 cipherOf Symmetric = symmetric
 cipherOf Asymmetric = asymmetric
@@ -74,13 +66,13 @@ register m r = getD (m .registers) r 0
 unfoldable pub values : Machine → List Term
 values m = listed (λ r. termAt m (register m r)) (m .used)
 
-pub record Sound (m : Machine) : Type 0 where
+pub record SoundState (m : Machine) : Type 0 where
   pub table : Table (nodeAt m) (m .nodes) (termAt m)
   pub canonical : (k : ℕ) → k < m .nodes → nodeFor (nodeAt m k) ≡ nodeIn m k
   pub written : (r : ℕ) → r < m .used → register m r < m .nodes
 
 pub record Holds (m : Machine) (vs : List Term) : Type 0 where
-  pub sound : Sound m
+  pub sound : SoundState m
   pub is : values m ≡ vs
 
 -- ---- what the machine's functions do
@@ -105,7 +97,7 @@ inverseNodes v w = ((eqb (v .head) 130 && eqb (w .head) 131) || (eqb (v .head) 1
 
 -- a node that can be put into the state m
 pub record Fit (m : Machine) (v : Node) : Type 0 where
-  pub sound : Sound m
+  pub sound : SoundState m
   pub canonical : nodeFor (recordFor v) ≡ v
   pub low : Below (m .nodes) (recordFor v)
   pub room : m .nodes < 384
@@ -120,9 +112,9 @@ pub record Has (m : Machine) (v : Node) (r : Interned) : Type 0 where
 
 -- the numbers of two nodes over which the state m can make one more term
 pub record Ready (m : Machine) (a b : ℕ) : Type 0 where
-  pub sound : Sound m
-  pub first : a < m .nodes
-  pub second : b < m .nodes
+  pub sound : SoundState m
+  pub left : a < m .nodes
+  pub right : b < m .nodes
   pub room : m .nodes < 384
   pub space : m .used < 256
 
@@ -141,16 +133,16 @@ pub record Gives (m : Machine) (t : Term) (r : Machine) : Type 0 where
 
 -- an instruction that the state m can execute
 pub record Executable (m : Machine) (i : Instruction) : Type 0 where
-  pub sound : Sound m
+  pub sound : SoundState m
   pub rule : i .rule < rules
-  pub first : i .first < m .used
-  pub second : operand i < m .used
+  pub left : i .left < m .used
+  pub right : operand i < m .used
   pub room : m .nodes < 384
   pub space : m .used < 256
 
 -- ---- a run
 -- bytes that passed checks 1 to 5
-pub record Read (s : List ℕ) : Type 0 where
+pub record SubmissionRead (s : List ℕ) : Type 0 where
   pub bytes : Bytes s
   pub passed : checks1to5 s ≡ passes
 
@@ -179,7 +171,7 @@ pub record Running (s : List ℕ) (name : ℕ) (P : List ℕ) (n : ℕ) (m : Mac
 
 -- a test that the state m can make
 pub record Testable (m : Machine) (t : Test) : Type 0 where
-  pub sound : Sound m
-  pub first : t .first < m .used
-  pub second : t .second < m .used
+  pub sound : SoundState m
+  pub left : t .left < m .used
+  pub right : t .right < m .used
   pub room : m .nodes ≤ 384

@@ -13,7 +13,9 @@ use Rattle.base.specs.Answer.{Answer, done, andThen, answered}
 use Rattle.base.specs.Bytes.{byte}
 use Rattle.submission.specs.Record.{entries, entryAt, guess, kindAt, Shape, atomic, compound, shapeOf, term}
 use Rattle.submission.specs.Check.{checks1to5}
-use Rattle.machine.specs.Program.{Instruction, Test, Relation, equal, inverse, relationOf, instructionAt, testOf, operand, check13}
+use Rattle.term.specs.Relation.{Relation, equal, inverse}
+use Rattle.program.specs.Tests.{relationOf}
+use Rattle.program.specs.Program.{Instruction, Test, instructionAt, testAt, operand, check13}
 
 abbrev pub atomKind : Option Shape → Kind
 atomKind none = plain
@@ -30,7 +32,7 @@ initial s name = listed (λ i. term s (entryAt s i)) (entries s) ++ guessed s na
 
 -- one instruction over the registers' values
 unfoldable pub executed : List Term → Instruction → Term
-executed vs i = op (headOf (i .rule)) (getD vs (i .first) void) (getD vs (operand i) void)
+executed vs i = op (headOf (i .rule)) (getD vs (i .left) void) (getD vs (operand i) void)
 
 -- the registers after the first n instructions
 unfoldable pub registers : List ℕ → ℕ → List ℕ → ℕ → List Term
@@ -43,10 +45,10 @@ holds (some equal) a b = test (term? b a)
 holds (some inverse) a b = test (match? asymmetric a b)
 
 unfoldable pub signals : List Term → Test → Bool
-signals vs t = holds (relationOf (t .letter)) (getD vs (t .first) void) (getD vs (t .second) void)
+signals vs t = holds (relationOf (t .letter)) (getD vs (t .left) void) (getD vs (t .right) void)
 
 unfoldable pub signal : List ℕ → ℕ → List ℕ → ℕ
-signal s name P = cond (signals (registers s name P (byte P 0)) (testOf P)) 1 0
+signal s name P = cond (signals (registers s name P (byte P 0)) (testAt P)) 1 0
 
 -- "run makes 1 to 5, then 13"
 unfoldable pub runAnswer : List ℕ → ℕ → List ℕ → Answer

@@ -3,23 +3,24 @@
 // Cost, for T terms and N instructions: terms are held shared, so an instruction adds at most one node, however large its term is as a
 // tree, after one look through at most T + 1 + N nodes.
 use base::Answer;
-use base::Stage;
+use program::Asked;
+use program::Instruction;
+use submission::Reading;
 ghost use mathlib.Core.Path.{_≡_};
 ghost use mathlib.Core.Bool.{false, cond};
 ghost use mathlib.Core.List.{[]};
-ghost use Prim.Native.Nat.{_+_, _≤_, _<_};
-ghost use Rattle.base.specs.First.{first, any};
+ghost use Prim.Native.Nat.{_≤_, _<_};
+ghost use Rattle.base.specs.First.{first};
 ghost use Rattle.term.specs.Term.{part, node as term, test};
 ghost use Rattle.term.specs.Reduce.{match?, pick, paired as pairedTerm, parted as partedTerm, cancelled as cancelledTerm};
 ghost use Rattle.term.specs.Rule.{rules, headOf};
 ghost use Rattle.base.specs.Code.{answerOf};
 ghost use Rattle.base.specs.Bytes.{byte as byteAt};
 ghost use Rattle.submission.specs.Record.{terms as termCount, entries as entryCount, recordAt};
-ghost use Rattle.machine.specs.Program.{instructionAt, operand, testOf, badInstruction, badTest, badProgram};
+ghost use Rattle.program.specs.Program.{testAt, badProgram};
+ghost use Rattle.program.specs.Code.{instructionIn};
 ghost use Rattle.machine.specs.Run.{executed as executedTerm, signals, runAnswer};
-ghost use Rattle.machine.specs.Code.{instructionOf, testIn, cipherOf, sideOf, nodeFor, nodeIn, sameNode, partsOfOne, inverseNodes, isNode, foundOf, termAt, values, Sound, Executable, Fit, Has, Ready, Stored, Gives, Read, knowledge, Loaded, Started, Running, Testable};
-
-// ---- Programs, and check 13.
+ghost use Rattle.machine.specs.Code.{cipherOf, sideOf, nodeFor, nodeIn, sameNode, partsOfOne, inverseNodes, isNode, foundOf, termAt, values, SoundState, Executable, Fit, Has, Ready, Stored, Gives, SubmissionRead, knowledge, Loaded, Started, Running, Testable};
 
 // The rules' numbers.
 const PAIR: u8 = 0;
@@ -35,111 +36,6 @@ const DEC: u8 = 4;
 const ENCA: u8 = 5;
 
 const DECA: u8 = 6;
-
-// One instruction: a rule and two registers.
-pub struct Instruction {
-    pub rule: u8,
-    pub first: u8,
-    pub second: u8,
-}
-
-// The test that ends a program: a letter and two registers.
-pub struct Test {
-    pub letter: u8,
-    pub first: u8,
-    pub second: u8,
-}
-
-// Instruction i.
-pub fn instruction_at(program: &[u8], i: u8) -> Instruction
-    ensures { λ r. ⌜ instructionOf r ≡ instructionAt (now (program .entry)) i ⌝ }
-{
-    let at = 3 * base::wide(i);
-    Instruction {
-        rule: base::byte(program, at + 1),
-        first: base::byte(program, at + 2),
-        second: base::byte(program, at + 3),
-    }
-}
-
-// The program's last three bytes.
-pub fn test_of(program: &[u8]) -> Test
-    ensures { λ r. ⌜ testIn r ≡ testOf (now (program .entry)) ⌝ }
-{
-    let at = 3 * base::wide(base::byte(program, 0));
-    Test {
-        letter: base::byte(program, at + 1),
-        first: base::byte(program, at + 2),
-        second: base::byte(program, at + 3),
-    }
-}
-
-// Whether the instruction is bad, with the first `written` registers written before it.
-fn is_instruction_bad(i: Instruction, written: usize) -> bool
-    ensures { λ r. ⌜ r ≡ badInstruction written (instructionOf i) ⌝ }
-{
-    if DECA < i.rule {
-        return true;
-    }
-    if written <= base::wide(i.first) {
-        return true;
-    }
-    if submission::has_one(i.rule) {
-        return i.second != 0;
-    }
-    written <= base::wide(i.second)
-}
-
-// Whether the test is bad, with the first `written` registers written.
-fn is_test_bad(t: Test, written: usize) -> bool
-    ensures { λ r. ⌜ r ≡ badTest written (testIn t) ⌝ }
-{
-    if written <= base::wide(t.first) {
-        return true;
-    }
-    if written <= base::wide(t.second) {
-        return true;
-    }
-    if t.letter == b'=' {
-        return false;
-    }
-    t.letter != b'i'
-}
-
-// Whether some instruction is bad, where `known` registers hold the knowledge.
-fn has_bad_instruction(program: &[u8], known: u8) -> bool
-    ensures { λ r. ⌜ r ≡ any (λ i. badInstruction (known + 1 + i) (instructionAt (now (program .entry)) i)) (byteAt (now (program .entry)) 0) ⌝ }
-{
-    let n = base::byte(program, 0);
-    for i in 0..n {
-        let written = base::wide(known) + 1 + base::wide(i);
-        if is_instruction_bad(instruction_at(program, i), written) {
-            return true;
-        }
-    }
-    false
-}
-
-// Row 13 of the verdicts.
-fn is_program_bad(s: &[u8], program: &[u8]) -> bool
-    ensures { λ r. ⌜ r ≡ badProgram (now (s .entry)) (now (program .entry)) ⌝ }
-{
-    if program.len() == 0 {
-        return true;
-    }
-    let n = base::byte(program, 0);
-    if 128 < n {
-        return true;
-    }
-    if program.len() != 3 * base::wide(n) + 4 {
-        return true;
-    }
-    let known = submission::entries(s);
-    if has_bad_instruction(program, known) {
-        return true;
-    }
-    is_test_bad(test_of(program), base::wide(known) + 1 + base::wide(n))
-}
 
 // ---- Terms as nodes.
 
@@ -248,17 +144,6 @@ fn chosen(side: Side, left: u16, right: u16) -> u16
     }
 }
 
-// The register of the second operand.
-fn operand_of(i: Instruction) -> u8
-    ensures { λ r. ⌜ r ≡ operand (instructionOf i) ⌝ }
-{
-    if submission::has_one(i.rule) {
-        i.first
-    } else {
-        i.second
-    }
-}
-
 // ---- The state, and one instruction.
 
 impl Machine {
@@ -316,7 +201,7 @@ impl Machine {
 
     // The state with the node n in the next register.
     fn with_register(self, n: u16) -> Self
-        requires { ⌜ Sound self ⌝ }
+        requires { ⌜ SoundState self ⌝ }
         requires { ⌜ n < self .nodes ⌝ }
         requires { ⌜ self .used < 256 ⌝ }
         ensures { λ r. ⌜ Stored self n r ⌝ }
@@ -346,7 +231,7 @@ impl Machine {
 
     // Whether k and j are the keys of opposite operations.
     fn do_match(self, cipher: Cipher, k: u16, j: u16) -> bool
-        requires { ⌜ Sound self ⌝ }
+        requires { ⌜ SoundState self ⌝ }
         requires { ⌜ k < self .nodes ⌝ }
         requires { ⌜ j < self .nodes ⌝ }
         requires { ⌜ self .nodes ≤ 384 ⌝ }
@@ -404,11 +289,11 @@ impl Machine {
 
     // Executes one instruction: its result goes to the next register.
     fn step(self, i: Instruction) -> Self
-        requires { ⌜ Executable self (instructionOf i) ⌝ }
-        ensures { λ r. ⌜ Gives self (executedTerm (values self) (instructionOf i)) r ⌝ }
+        requires { ⌜ Executable self (instructionIn i) ⌝ }
+        ensures { λ r. ⌜ Gives self (executedTerm (values self) (instructionIn i)) r ⌝ }
     {
-        let p = base::wide(i.first);
-        let q = base::wide(operand_of(i));
+        let p = base::wide(i.left);
+        let q = base::wide(program::operand_of(i));
         let a = self.registers[p];
         let b = self.registers[q];
         let rule = i.rule;
@@ -442,7 +327,7 @@ fn empty() -> Machine
 
 // The node of a term's record.
 fn node_of(s: &[u8], t: u8) -> Node
-    requires { ⌜ Read (now s) ⌝ }
+    requires { ⌜ SubmissionRead (now s) ⌝ }
     requires { ⌜ t < termCount (now s) ⌝ }
     ensures { λ r. ⌜ r ≡ nodeFor (recordAt (now (s .entry)) t) ⌝ }
 {
@@ -476,7 +361,7 @@ fn node_of(s: &[u8], t: u8) -> Node
 
 // The state that holds the terms, each under its own number.
 fn with_terms(s: &[u8]) -> Machine
-    requires { ⌜ Read (now s) ⌝ }
+    requires { ⌜ SubmissionRead (now s) ⌝ }
     ensures { λ r. ⌜ Loaded (now (s .entry)) [] r ⌝ }
 {
     let mut m = empty();
@@ -494,7 +379,7 @@ fn with_terms(s: &[u8]) -> Machine
 
 // The state that holds the terms, and the knowledge in the first registers.
 fn with_knowledge(s: &[u8]) -> Machine
-    requires { ⌜ Read (now s) ⌝ }
+    requires { ⌜ SubmissionRead (now s) ⌝ }
     ensures { λ r. ⌜ Loaded (now (s .entry)) (knowledge (now (s .entry)) (entryCount (now (s .entry)))) r ⌝ }
 {
     let mut m = with_terms(s);
@@ -507,11 +392,11 @@ fn with_knowledge(s: &[u8]) -> Machine
 
 // The state before the first instruction: the guess register holds the atom of the guess's kind with this name.
 fn initial(s: &[u8], name: u16) -> Machine
-    requires { ⌜ Read (now s) ⌝ }
+    requires { ⌜ SubmissionRead (now s) ⌝ }
     ensures { λ r. ⌜ Started (now (s .entry)) name r ⌝ }
 {
     let m = with_knowledge(s);
-    let claim = submission::claim_of(s);
+    let claim = submission::claim_bytes(s);
     let guess = submission::term_at(s, claim.guess);
     let made = m.intern(Node {
         head: ATOM + guess.kind,
@@ -524,14 +409,14 @@ fn initial(s: &[u8], name: u16) -> Machine
 
 // The state after all instructions.
 fn executed(s: &[u8], name: u16, program: &[u8]) -> Machine
-    requires { ⌜ Read (now s) ⌝ }
+    requires { ⌜ SubmissionRead (now s) ⌝ }
     requires { ⌜ badProgram (now s) (now program) ≡ false ⌝ }
     ensures { λ r. ⌜ Running (now (s .entry)) name (now (program .entry)) (byteAt (now (program .entry)) 0) r ⌝ }
 {
     let mut m = initial(s, name);
     let n = base::byte(program, 0);
     for i in 0..n {
-        m = m.step(instruction_at(program, i));
+        m = m.step(program::instruction_at(program, i));
     }
     m
 }
@@ -544,21 +429,20 @@ fn bit(b: bool) -> u16
 
 // The signal of the program's test.
 fn signal(program: &[u8], m: Machine) -> u16
-    requires { ⌜ Testable m (testOf (now program)) ⌝ }
-    ensures { λ r. ⌜ r ≡ cond (signals (values m) (testOf (now (program .entry)))) 1 0 ⌝ }
+    requires { ⌜ Testable m (testAt (now program)) ⌝ }
+    ensures { λ r. ⌜ r ≡ cond (signals (values m) (testAt (now (program .entry)))) 1 0 ⌝ }
 {
-    let t = test_of(program);
-    let p = base::wide(t.first);
-    let q = base::wide(t.second);
+    let t = program::test_at(program);
+    let p = base::wide(t.left);
+    let q = base::wide(t.right);
     let a = m.registers[p];
     let b = m.registers[q];
-    if t.letter == b'=' {
-        return bit(a == b);
+    let relation = program::relation_of(t.letter);
+    match relation {
+        Asked::Equal => bit(a == b),
+        Asked::Inverse => bit(m.do_match(Cipher::Asymmetric, a, b)),
+        Asked::Unknown => 0,
     }
-    if t.letter == b'i' {
-        return bit(m.do_match(Cipher::Asymmetric, a, b));
-    }
-    0
 }
 
 // The signal of a program on a submission, with a name for the guess; or the refusal of the first of checks 1 to 5 and 13 that fails.
@@ -566,10 +450,10 @@ pub fn run(s: &[u8], name: u16, program: &[u8]) -> Answer
     ensures { λ r. ⌜ answerOf r ≡ runAnswer (now (s .entry)) name (now (program .entry)) ⌝ }
 {
     let reading = submission::check_reading(s);
-    let Stage::Passed = reading else {
-        return base::answered_by(reading, 0);
+    let Reading::Good(_claim) = reading else {
+        return base::answered_by(submission::stage_of(reading), 0);
     };
-    if is_program_bad(s, program) {
+    if program::is_program_bad(s, program) {
         return Answer::Refused {
             number: 13,
             place: 0,

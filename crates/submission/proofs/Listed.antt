@@ -18,7 +18,7 @@ use Rattle.base.specs.Answer.{passes}
 use Rattle.base.specs.Bytes.{Bytes}
 use Rattle.submission.specs.Contents.{badCount, check1, check2}
 use Rattle.submission.specs.Record.{terms, entries, steps, kindAt, xAt, yAt, nameAt, entryAt, guess, verifying, wayAt, companion, Shape, atomic, compound, shapeOf, kindOf, takes, isAtomic, recordOf, recordAt, term, inverseKinds, areInverse}
-use Rattle.submission.specs.Claim.{Way, another-step, at-start, inverse-key, wayOf, companionFits}
+use Rattle.submission.specs.Way.{Way, another-step, at-start, inverse-key, wayOf, Range, step-number, term-number, zero-only, row, inRange, claimFits}
 use Rattle.submission.specs.Check.{badTerm, check3, badKnowledge, check4, goodClaim, check5, checks1to4, checks1to5}
 use Rattle.base.proofs.AnswerLaws.{if-passes, at-passes, then-passes}
 use Rattle.submission.proofs.Shape.{shape-kind, Listable, kind-shape, Shaped, Good, good, name-bytes, same-record}
@@ -192,10 +192,15 @@ compound-term {s} z i h f l e =
     (omega arith, omega arith, term-of-kind s (z .bytes) (z .good) (z .table) i (compound h) f l e)
 
 -- ---- check 5
-abbrev pub InRange : List ℕ → Way → Type 0
-InRange s another-step = companion s < steps s
-InRange s at-start = companion s ≡ 0
-InRange s inverse-key = companion s < terms s
+abbrev pub InRange : List ℕ → Range → ℕ → Type 0
+InRange s step-number n = n < steps s
+InRange s term-number n = n < terms s
+InRange s zero-only n = n ≡ 0
+
+pub says-in-range : (s : List ℕ) (r : Range) (n : ℕ) → Says (inRange s r n) (InRange s r n)
+says-in-range s step-number n = says-ltb n (steps s)
+says-in-range s term-number n = says-ltb n (terms s)
+says-in-range s zero-only n = says-eqb n 0
 
 pub record Claimed (s : List ℕ) : Type 0 where
   pub read : Listed s
@@ -206,40 +211,45 @@ pub record Claimed (s : List ℕ) : Type 0 where
   pub verifying-below : verifying s < steps s
   pub way : Way
   pub has-way : wayOf (wayAt s) ≡ some way
-  pub in-range : InRange s way
+  pub in-range : InRange s (row way .companion) (companion s)
 
 atomic-shape : (o : Option Shape) → isAtomic o ≡ true → (κ : Kind) × (o ≡ some (atomic κ))
 atomic-shape none e = absurd (false≢true e)
 atomic-shape (some (atomic κ)) e = (κ, refl)
 atomic-shape (some (compound h)) e = absurd (false≢true e)
 
-way-in-range : (s : List ℕ) (o : Option Way) → companionFits s o ≡ true → (w : Way) × (o ≡ some w) × InRange s w
-way-in-range s none e = absurd (false≢true e)
-way-in-range s (some another-step) e = (another-step, refl, says-ltb _ _ .0 e)
-way-in-range s (some at-start) e = (at-start, refl, says-eqb _ _ .0 e)
-way-in-range s (some inverse-key) e = (inverse-key, refl, says-ltb _ _ .0 e)
+claim-in-range : (s : List ℕ) (o : Option Way) → claimFits s o ≡ true →
+    (w : Way) × (o ≡ some w) × InRange s (row w .step) (verifying s) × InRange s (row w .companion) (companion s)
+claim-in-range s none e = absurd (false≢true e)
+claim-in-range s (some w) e = let (a, b) = says-and _ _ (says-in-range s (row w .step) _) (says-in-range s (row w .companion) _) .0 e in (w, refl, a, b)
+
+-- in every way the step is one of the derivation
+step-below : (s : List ℕ) (w : Way) (n : ℕ) → InRange s (row w .step) n → n < steps s
+step-below s another-step n l = l
+step-below s at-start n l = l
+step-below s inverse-key n l = l
 
 pub claimed : (s : List ℕ) → Bytes s → checks1to5 s ≡ passes → Claimed s
 unfolding checks1to5 goodClaim
 claimed s b e =
     let (r, e5) = then-passes (checks1to4 s) (check5 s) .0 e in
     let z = listed s b r in
-    let (g, a, v, c) = says-all s .0 (not-not-false _ .0 (if-passes _ 5 0 .0 e5)) in
+    let (g, a, c) = says-all s .0 (not-not-false _ .0 (if-passes _ 5 0 .0 e5)) in
     let (κ, k) = atomic-shape _ a in
-    let (w, f, i) = way-in-range s _ c in
+    let (w, f, v, i) = claim-in-range s _ c in
     record {
       read = z;
       guess-below = g;
       guess-kind = κ;
       guess-shape = k;
       guess-term = term-at s (z .bytes) (z .good) (z .table) (guess s) (atomic κ) g k;
-      verifying-below = v;
+      verifying-below = step-below s w _ v;
       way = w;
       has-way = f;
       in-range = i;
     }
   where
-    says-all : (s : List ℕ) → Says (goodClaim s) ((guess s < terms s) × (isAtomic (shapeOf (kindAt s (guess s))) ≡ true) × (verifying s < steps s) × (companionFits s (wayOf (wayAt s)) ≡ true))
+    says-all : (s : List ℕ) → Says (goodClaim s) ((guess s < terms s) × (isAtomic (shapeOf (kindAt s (guess s))) ≡ true) × (claimFits s (wayOf (wayAt s)) ≡ true))
     says-all s =
-        let w = says-and _ _ (says-ltb (guess s) (terms s)) (says-and _ _ (says-true (isAtomic (shapeOf (kindAt s (guess s))))) (says-and _ _ (says-ltb (verifying s) (steps s)) (says-true (companionFits s (wayOf (wayAt s)))))) in
-        (λ e. let u = w .0 e in (u .0, u .1 .0, u .1 .1 .0, u .1 .1 .1), λ u. w .1 (u .0, (u .1, (u .2, u .3))))
+        let w = says-and _ _ (says-ltb (guess s) (terms s)) (says-and _ _ (says-true (isAtomic (shapeOf (kindAt s (guess s))))) (says-true (claimFits s (wayOf (wayAt s))))) in
+        (λ e. let u = w .0 e in (u .0, u .1 .0, u .1 .1), λ u. w .1 (u .0, (u .1, u .2)))

@@ -7,8 +7,8 @@ use lib.Dec.{eqb, ltb}
 use Rattle.base.specs.First.{first, any}
 use Rattle.base.specs.Answer.{Check, failsAt, failsIf, andThen}
 use Rattle.submission.specs.Contents.{check1, check2}
-use Rattle.submission.specs.Record.{terms, entries, steps, kindAt, xAt, yAt, entryAt, guess, verifying, wayAt, Shape, atomic, compound, shapeOf, takes, isAtomic}
-use Rattle.submission.specs.Claim.{wayOf, companionFits}
+use Rattle.submission.specs.Record.{terms, entries, kindAt, xAt, yAt, entryAt, guess, wayAt, Shape, atomic, compound, shapeOf, takes, isAtomic}
+use Rattle.submission.specs.Way.{wayOf, claimFits}
 
 -- "In 4 to 6, x and y number earlier terms", and y is of a kind that the head takes
 abbrev pub shapeFits : List ℕ → ℕ → Option Shape → Bool
@@ -37,7 +37,7 @@ check4 s = failsAt 4 (first (badKnowledge s) (entries s))
 -- 5 claim: "guess not below T or no atom; step or companion out of range ..; way"
 unfoldable pub goodClaim : List ℕ → Bool
 goodClaim s =
-    ltb (guess s) (terms s) && (isAtomic (shapeOf (kindAt s (guess s))) && (ltb (verifying s) (steps s) && companionFits s (wayOf (wayAt s))))
+    ltb (guess s) (terms s) && (isAtomic (shapeOf (kindAt s (guess s))) && claimFits s (wayOf (wayAt s)))
 
 abbrev pub check5 : List ℕ → Check
 check5 s = failsIf (not (goodClaim s)) 5 0

@@ -5,6 +5,22 @@ use Prim.Native.Nat.{ℕ, _≤_, _<_}
 use lib.ListN.{length, getD}
 use Rattle.submission.specs.declared.Term.{Term}
 use Rattle.submission.specs.declared.Claim.{Claim}
+use Rattle.submission.specs.declared.ClaimBytes.{ClaimBytes}
+use Rattle.submission.specs.declared.Way.{Way as WayRead}
+use Rattle.submission.specs.declared.Way.the-variants.{AnotherStep, AtStart, InverseKey}
+use Rattle.submission.specs.declared.Letter.{Letter}
+use Rattle.submission.specs.declared.Letter.the-variants.{Stands, Stranger}
+use Rattle.submission.specs.declared.Range.{Range as RangeRead}
+use Rattle.submission.specs.declared.Range.the-variants.{Step, Term as TermNumber, Zero}
+use Rattle.submission.specs.declared.Operand.{Operand as OperandRead}
+use Rattle.submission.specs.declared.Operand.the-variants.{VerifyingResult, CompanionResult, LowestConclusion, LowestCompanion}
+use Rattle.submission.specs.declared.Row.{Row as RowRead}
+use Rattle.submission.specs.declared.Reading.{Reading}
+use Rattle.submission.specs.declared.Reading.the-variants.{Good, Refused}
+use Rattle.submission.specs.Way.{Way, another-step, at-start, inverse-key, wayOf, Range, step-number, term-number, zero-only, Operand, verifying-result, companion-result, lowest-conclusion, lowest-companion, Row}
+use Rattle.term.specs.Code.{relationIs}
+use Rattle.base.specs.Answer.{Check, passes, fails}
+use mathlib.Core.Option.{Option, none, some}
 use Rattle.submission.specs.Contents.{start}
 use Rattle.submission.specs.Record.{terms, kindAt, xAt, yAt, guess, verifying, wayAt, companion}
 
@@ -19,12 +35,61 @@ pub record IsTerm (s : List ℕ) (i : ℕ) (t : Term) : Type 0 where
   pub x : t .x ≡ xAt s i
   pub y : t .y ≡ yAt s i
 
+-- ---- the claim, and the table of ways
+abbrev pub wayIs : WayRead → Way
+wayIs AnotherStep = another-step
+wayIs AtStart = at-start
+wayIs InverseKey = inverse-key
+
+abbrev pub letterIs : Letter → Option Way
+letterIs Stranger = none
+letterIs (Stands w) = some (wayIs w)
+
+abbrev pub rangeIs : RangeRead → Range
+rangeIs Step = step-number
+rangeIs TermNumber = term-number
+rangeIs Zero = zero-only
+
+abbrev pub operandIs : OperandRead → Operand
+operandIs VerifyingResult = verifying-result
+operandIs CompanionResult = companion-result
+operandIs LowestConclusion = lowest-conclusion
+operandIs LowestCompanion = lowest-companion
+
+abbrev pub rowIs : RowRead → Row
+rowIs r =
+    record {
+      step = rangeIs (r .step);
+      companion = rangeIs (r .companion);
+      companionKept = r .kept;
+      relation = relationIs (r .relation);
+      tested = operandIs (r .tested);
+      against = operandIs (r .against);
+    }
+
+-- b holds the claim's bytes
+pub record IsClaimBytes (s : List ℕ) (b : ClaimBytes) : Type 0 where
+  pub guessed : b .guess ≡ guess s
+  pub step : b .step ≡ verifying s
+  pub letter : b .letter ≡ wayAt s
+  pub other : b .companion ≡ companion s
+
 -- c holds the claim
 pub record IsClaim (s : List ℕ) (c : Claim) : Type 0 where
   pub guessed : c .guess ≡ guess s
   pub step : c .step ≡ verifying s
-  pub way : c .way ≡ wayAt s
+  pub way : wayOf (wayAt s) ≡ some (wayIs (c .way))
   pub other : c .companion ≡ companion s
+
+-- what reading says: the checks passed, or the number and the place of the refusal
+abbrev pub readingCheck : Reading → Check
+readingCheck (Good c) = passes
+readingCheck (Refused number place) = fails number place
+
+-- r is the answer d of the checks, with the claim where they pass
+pub record ReadingIs (s : List ℕ) (d : Check) (r : Reading) : Type 0 where
+  pub answer : readingCheck r ≡ d
+  pub claim : (c : Claim) → r ≡ Good c → IsClaim s c
 
 -- the last bytes of the records of the first i terms
 pub record LastBytes (s : List ℕ) (i : ℕ) (l : List ℕ) : Type 0 where

@@ -1,5 +1,5 @@
 pub mod Check
-pub mod Claim
 pub mod Code
 pub mod Contents
 pub mod Record
+pub mod Way

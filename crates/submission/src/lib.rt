@@ -5,6 +5,7 @@ use base::byte;
 use base::wide;
 use base::wide16;
 use base::word;
+use term::Relation;
 ghost use mathlib.Core.Path.{_≡_};
 ghost use mathlib.Core.Bool.{_&&_, _||_};
 ghost use Prim.Native.Nat.{_<_};
@@ -14,10 +15,10 @@ ghost use Rattle.term.specs.Rule.{hasOne};
 ghost use Rattle.base.specs.Bytes.{byte as byteAt, word as wordAt};
 ghost use Rattle.submission.specs.Contents.{wrongLetter, wrongStart, badContents, check1, check2};
 ghost use Rattle.submission.specs.Record.{terms as termCount, entries as entryCount, steps as stepCount, kindAt, xAt, yAt, entryAt, wayAt, shapeOf, isAtomic, areInverse};
-ghost use Rattle.submission.specs.Claim.{wayOf, companionFits};
+ghost use Rattle.submission.specs.Way.{wayOf, row, inRange, claimFits};
 ghost use Rattle.submission.specs.Check.{shapeFits, sameRecord, badTerm, badKnowledge, goodClaim, check3, check4, check5, checks1to4, checks1to5};
 ghost use Rattle.base.specs.Code.{checkOf};
-ghost use Rattle.submission.specs.Code.{Starts, IsTerm, IsClaim, LastBytes};
+ghost use Rattle.submission.specs.Code.{Starts, IsTerm, wayIs, letterIs, rangeIs, rowIs, IsClaimBytes, IsClaim, readingCheck, ReadingIs, LastBytes};
 
 pub fn terms(s: &[u8]) -> u8
     ensures { λ r. ⌜ r ≡ termCount (now (s .entry)) ⌝ }
@@ -80,22 +81,22 @@ pub fn term_at(s: &[u8], i: u8) -> Term
     }
 }
 
-// The claim.
-pub struct Claim {
+// The claim's four bytes.
+pub struct ClaimBytes {
     pub guess: u8,
     pub step: u8,
-    pub way: u8,
+    pub letter: u8,
     pub companion: u8,
 }
 
-pub fn claim_of(s: &[u8]) -> Claim
-    ensures { λ r. ⌜ IsClaim (now (s .entry)) r ⌝ }
+pub fn claim_bytes(s: &[u8]) -> ClaimBytes
+    ensures { λ r. ⌜ IsClaimBytes (now (s .entry)) r ⌝ }
 {
     let at = claim_start(s);
-    Claim {
+    ClaimBytes {
         guess: byte(s, at),
         step: byte(s, at + 1),
-        way: byte(s, at + 2),
+        letter: byte(s, at + 2),
         companion: byte(s, at + 3),
     }
 }
@@ -392,28 +393,136 @@ pub fn check_knowledge(s: &[u8]) -> Stage
     Stage::Passed
 }
 
-// ---- Check 5, claim.
+// ---- The ways of a claim.
 
-// Whether the companion is in range for the claim's way.
-fn companion_fits(s: &[u8], c: Claim) -> bool
-    requires { ⌜ IsClaim (now s) c ⌝ }
-    ensures { λ r. ⌜ r ≡ companionFits (now (s .entry)) (wayOf (wayAt (now (s .entry)))) ⌝ }
+// Way a: another step concludes the same term; way b: it is known at the start; way c: its inverse key is known.
+pub enum Way {
+    AnotherStep,
+    AtStart,
+    InverseKey,
+}
+
+// What a letter stands for.
+pub enum Letter {
+    Stands(Way),
+    Stranger,
+}
+
+fn way_of(letter: u8) -> Letter
+    ensures { λ r. ⌜ letterIs r ≡ wayOf letter ⌝ }
 {
-    let step_count = steps(s);
-    let term_count = terms(s);
-    let way = c.way;
-    match way {
-        b'a' => c.companion < step_count,
-        b'b' => c.companion == 0,
-        b'c' => c.companion < term_count,
-        _ => false,
+    match letter {
+        b'a' => Letter::Stands(Way::AnotherStep),
+        b'b' => Letter::Stands(Way::AtStart),
+        b'c' => Letter::Stands(Way::InverseKey),
+        _ => Letter::Stranger,
     }
 }
 
-fn is_claim_good(s: &[u8]) -> bool
+// What a number of the claim may be: a step's, a term's, or 0 only.
+pub enum Range {
+    Step,
+    Term,
+    Zero,
+}
+
+// A register that the test names: of the verifying step or of the companion step, or the lowest that holds the conclusion or the companion.
+pub enum Operand {
+    VerifyingResult,
+    CompanionResult,
+    LowestConclusion,
+    LowestCompanion,
+}
+
+// A way's row of the table: the ranges of the step and of the companion, whether the companion must undo nothing, and the test.
+pub struct Row {
+    pub step: Range,
+    pub companion: Range,
+    pub kept: bool,
+    pub relation: Relation,
+    pub tested: Operand,
+    pub against: Operand,
+}
+
+pub fn row_of(way: Way) -> Row
+    ensures { λ r. ⌜ rowIs r ≡ row (wayIs way) ⌝ }
+{
+    match way {
+        Way::AnotherStep => Row {
+            step: Range::Step,
+            companion: Range::Step,
+            kept: true,
+            relation: Relation::Equal,
+            tested: Operand::VerifyingResult,
+            against: Operand::CompanionResult,
+        },
+        Way::AtStart => Row {
+            step: Range::Step,
+            companion: Range::Zero,
+            kept: false,
+            relation: Relation::Equal,
+            tested: Operand::VerifyingResult,
+            against: Operand::LowestConclusion,
+        },
+        Way::InverseKey => Row {
+            step: Range::Step,
+            companion: Range::Term,
+            kept: false,
+            relation: Relation::Inverse,
+            tested: Operand::VerifyingResult,
+            against: Operand::LowestCompanion,
+        },
+    }
+}
+
+// ---- Check 5, claim.
+
+// The claim, its way decoded.
+pub struct Claim {
+    pub guess: u8,
+    pub step: u8,
+    pub way: Way,
+    pub companion: u8,
+}
+
+// What reading answers: the claim, or the refusal's number and place.
+pub enum Reading {
+    Good(Claim),
+    Refused { number: u8, place: u16 },
+}
+
+// Whether n is in the range.
+fn is_in_range(s: &[u8], range: Range, n: u8) -> bool
+    ensures { λ r. ⌜ r ≡ inRange (now (s .entry)) (rangeIs range) n ⌝ }
+{
+    let step_count = steps(s);
+    let term_count = terms(s);
+    match range {
+        Range::Step => n < step_count,
+        Range::Term => n < term_count,
+        Range::Zero => n == 0,
+    }
+}
+
+// Whether the step and the companion are in range for the claim's way.
+fn claim_fits(s: &[u8], c: Claim) -> bool
+    requires { ⌜ IsClaim (now s) c ⌝ }
+    ensures { λ r. ⌜ r ≡ claimFits (now (s .entry)) (wayOf (wayAt (now (s .entry)))) ⌝ }
+{
+    let way = c.way;
+    let row = row_of(way);
+    let step = row.step;
+    let companion = row.companion;
+    if is_in_range(s, step, c.step) {
+        return is_in_range(s, companion, c.companion);
+    }
+    false
+}
+
+fn is_claim_good(s: &[u8], c: Claim) -> bool
+    requires { ⌜ IsClaim (now s) c ⌝ }
     ensures { λ r. ⌜ r ≡ goodClaim (now (s .entry)) ⌝ }
 {
-    let c = claim_of(s);
     if terms(s) <= c.guess {
         return false;
     }
@@ -421,21 +530,42 @@ fn is_claim_good(s: &[u8]) -> bool
     if !is_atom(guess.kind) {
         return false;
     }
-    if steps(s) <= c.step {
-        return false;
-    }
-    companion_fits(s, c)
+    claim_fits(s, c)
 }
 
-pub fn check_claim(s: &[u8]) -> Stage
-    ensures { λ r. ⌜ checkOf r ≡ check5 (now (s .entry)) ⌝ }
+pub fn check_claim(s: &[u8]) -> Reading
+    ensures { λ r. ⌜ ReadingIs (now (s .entry)) (check5 (now (s .entry))) r ⌝ }
 {
-    if is_claim_good(s) {
-        return Stage::Passed;
+    let bytes = claim_bytes(s);
+    let letter = way_of(bytes.letter);
+    let Letter::Stands(way) = letter else {
+        return Reading::Refused {
+            number: 5,
+            place: 0,
+        };
+    };
+    let claim = Claim {
+        guess: bytes.guess,
+        step: bytes.step,
+        way,
+        companion: bytes.companion,
+    };
+    if is_claim_good(s, claim) {
+        return Reading::Good(claim);
     }
-    Stage::Refused {
+    Reading::Refused {
         number: 5,
         place: 0,
+    }
+}
+
+// What reading says as a check.
+pub fn stage_of(reading: Reading) -> Stage
+    ensures { λ r. ⌜ checkOf r ≡ readingCheck reading ⌝ }
+{
+    match reading {
+        Reading::Good(_) => Stage::Passed,
+        Reading::Refused { number, place } => Stage::Refused { number, place },
     }
 }
 
@@ -461,12 +591,12 @@ pub fn check_body(s: &[u8]) -> Stage
 }
 
 // Checks 1 to 5.
-pub fn check_reading(s: &[u8]) -> Stage
-    ensures { λ r. ⌜ checkOf r ≡ checks1to5 (now (s .entry)) ⌝ }
+pub fn check_reading(s: &[u8]) -> Reading
+    ensures { λ r. ⌜ ReadingIs (now (s .entry)) (checks1to5 (now (s .entry))) r ⌝ }
 {
     let body = check_body(s);
-    let Stage::Passed = body else {
-        return body;
+    let Stage::Refused { number, place } = body else {
+        return check_claim(s);
     };
-    check_claim(s)
+    Reading::Refused { number, place }
 }

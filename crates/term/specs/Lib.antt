@@ -1,4 +1,6 @@
+pub mod Code
 pub mod Reduce
+pub mod Relation
 pub mod Rule
 pub mod Step
 pub mod Table

@@ -13,8 +13,10 @@ use Rattle.base.proofs.Order.{lt-or-ge}
 use Rattle.term.specs.Rule.{wordOf, hasOne}
 use Rattle.base.specs.Answer.{done}
 use Rattle.base.specs.Bytes.{byte, Bytes}
-use Rattle.machine.specs.Program.{Instruction, Test, Relation, equal, inverse, relationOf, instructionAt, testOf}
-use Rattle.text.specs.Text.{digits, registerText, secondText, stepLine, stepLines, relationWord, testLine, refusedText, answerText}
+use Rattle.term.specs.Relation.{Relation, equal, inverse}
+use Rattle.program.specs.Tests.{relationOf, relationWord}
+use Rattle.program.specs.Program.{Instruction, Test, instructionAt, testAt}
+use Rattle.text.specs.Text.{digits, registerText, secondText, stepLine, stepLines, testLine, refusedText, answerText}
 use Rattle.text.specs.Puts.{Puts}
 use Rattle.text.proofs.Puts.{puts-whole}
 use Rattle.text.proofs.Decimal.{digits-one, digits-more}
@@ -56,14 +58,14 @@ relation-length (some inverse) = omega arith
 second-length : (rule r : ℕ) → r < 1000 → length (secondText rule r) ≤ 5
 second-length rule r h = picked-length 5 (hasOne rule) _ _ (omega arith) (omega (arith, register-length r h))
 
-step-length : (r : ℕ) (i : Instruction) → r < 1000 → i .first < 1000 → i .second < 1000 → length (stepLine r i) ≤ 22
+step-length : (r : ℕ) (i : Instruction) → r < 1000 → i .left < 1000 → i .right < 1000 → length (stepLine r i) ≤ 22
 unfolding stepLine
 step-length r i h f s =
-    simp length-append (omega (arith, register-length r h, word-length (i .rule), register-length (i .first) f, second-length (i .rule) (i .second) s))
+    simp length-append (omega (arith, register-length r h, word-length (i .rule), register-length (i .left) f, second-length (i .rule) (i .right) s))
 
-test-length : (t : Test) → t .first < 1000 → t .second < 1000 → length (testLine t) ≤ 24
+test-length : (t : Test) → t .left < 1000 → t .right < 1000 → length (testLine t) ≤ 24
 unfolding testLine
-test-length t f s = simp length-append (omega (arith, register-length (t .first) f, relation-length (relationOf (t .letter)), register-length (t .second) s))
+test-length t f s = simp length-append (omega (arith, register-length (t .left) f, relation-length (relationOf (t .letter)), register-length (t .right) s))
 
 module _ (page : List ℕ) (bytes : Bytes page) where
   steps-length : (r n : ℕ) → r + n ≤ 1000 → length (stepLines r page n) ≤ 22 * n
@@ -74,10 +76,10 @@ module _ (page : List ℕ) (bytes : Bytes page) where
       (omega (arith, steps-length r n (omega arith), step-length (r + n) (instructionAt page n) (omega arith) (omega (arith, bytes (3 * n + 2))) (omega (arith, bytes (3 * n + 3)))))
 
   accepted-length : (known n : ℕ) → known < 256 → n < 256 → length (answerText known (done n) page) ≤ 22 * n + 37
-  unfolding answerText testOf
+  unfolding answerText testAt
   accepted-length known n h k =
       simp length-append
-      (omega (arith, digits-length 2 (suc n) n (omega arith), steps-length (known + 1) n (omega arith), test-length (testOf page) (omega (arith, bytes (3 * byte page 0 + 2))) (omega (arith, bytes (3 * byte page 0 + 3)))))
+      (omega (arith, digits-length 2 (suc n) n (omega arith), steps-length (known + 1) n (omega arith), test-length (testAt page) (omega (arith, bytes (3 * byte page 0 + 2))) (omega (arith, bytes (3 * byte page 0 + 3)))))
 
   -- an acceptance is printed whole; a buffer of 4,096 bytes is long enough for 128 steps, and one of 8,192 for 255
   pub accepted-whole : {out out′ : List ℕ} {r : ℕ} (known n : ℕ) → known < 256 → n < 256 → 22 * n + 37 ≤ length out → Puts out 0 (answerText known (done n) page) out′ r → (r ≡ length (answerText known (done n) page)) × (take r out′ ≡ answerText known (done n) page)

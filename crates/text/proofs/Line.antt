@@ -8,11 +8,13 @@ use native.Mathlib.Numerals.{add-one}
 use borrow.Author.Tests.{ne-eqb}
 use Rattle.term.specs.Rule.{wordOf, hasOne}
 use Rattle.base.specs.Answer.{done}
-use Rattle.machine.specs.Program.{Instruction, Test, instructionAt, testOf, relationOf}
-use Rattle.machine.specs.declared.Instruction.{Instruction as InstructionRead}
-use Rattle.machine.specs.declared.Test.{Test as TestRead}
-use Rattle.machine.specs.Code.{instructionOf, testIn}
-use Rattle.text.specs.Text.{decimal, space, newline, registerText, secondText, stepLine, stepLines, signalWord, acceptedWord, refusedWord, relationWord, testLine, refusedText, answerText}
+use Rattle.program.specs.Tests.{relationOf, relationWord}
+use Rattle.program.specs.Program.{Instruction, Test, instructionAt, testAt}
+use Rattle.program.specs.declared.Asked.{Asked}
+use Rattle.program.specs.declared.Instruction.{Instruction as InstructionRead}
+use Rattle.program.specs.declared.Test.{Test as TestRead}
+use Rattle.program.specs.Code.{relationIn, instructionIn, testIn}
+use Rattle.text.specs.Text.{decimal, space, newline, registerText, secondText, stepLine, stepLines, signalWord, acceptedWord, refusedWord, testLine, refusedText, answerText}
 use Rattle.text.specs.Puts.{Puts}
 use Rattle.text.proofs.Puts.{puts-none, puts-then}
 
@@ -27,12 +29,9 @@ pub last-rule-put : {a b : List ℕ} {i j rule : ℕ} → (rule ≡ 0 → ⊥) �
 unfolding wordOf
 last-rule-put {a} {b} {i} {j} {rule} e0 e1 e2 e3 e4 e5 p = simp (ne-eqb rule 0 e0, ne-eqb rule 1 e1, ne-eqb rule 2 e2, ne-eqb rule 3 e3, ne-eqb rule 4 e4, ne-eqb rule 5 e5) p
 
-pub relation-put : {a b : List ℕ} {i j n letter : ℕ} → letter ≡ n → Puts a i (relationWord (relationOf n)) b j → Puts a i (relationWord (relationOf letter)) b j
-relation-put e p = rw e p
-
-pub no-relation-put : {a : List ℕ} {i letter : ℕ} → (letter ≡ 0x3D → ⊥) → (letter ≡ 0x69 → ⊥) → Puts a i (relationWord (relationOf letter)) a i
-unfolding relationOf
-no-relation-put {a} {i} {letter} e f = simp (ne-eqb letter 0x3D e, ne-eqb letter 0x69 f) puts-none
+module _ {a : List ℕ} {i : ℕ} (letter : ℕ) {r v : Asked} (e : relationIn r ≡ relationOf letter) (k : r ≡ v) where
+  pub relation-put : {b : List ℕ} {j : ℕ} → Puts a i (relationWord (relationIn v)) b j → Puts a i (relationWord (relationOf letter)) b j
+  relation-put p = rw (← e, k) p
 
 -- the second register: none under fst and snd
 module _ {a : List ℕ} {i : ℕ} (rule second : ℕ) where
@@ -47,13 +46,13 @@ grouped w x y z = simp append-assoc
 
 -- the lines of an instruction and of the test
 module _ {p0 p1 p2 p3 p4 p5 p6 p7 : List ℕ} {a0 a1 a2 a3 a4 a5 a6 a7 v : ℕ} where
-  pub step-put : {t : InstructionRead} {x : Instruction} (r : ℕ) → instructionOf t ≡ x → Puts p0 a0 (registerText r) p1 a1 → Puts p1 a1 (space ++ (0x3D ∷ []) ++ space) p2 a2 → Puts p2 a2 (wordOf (t .rule)) p3 a3 → Puts p3 a3 space p4 a4 → v ≡ t .first → Puts p4 a4 (registerText v) p5 a5 → Puts p5 a5 (secondText (t .rule) (t .second)) p6 a6 → Puts p6 a6 newline p7 a7 → Puts p0 a0 (stepLine r x) p7 a7
+  pub step-put : {t : InstructionRead} {x : Instruction} (r : ℕ) → instructionIn t ≡ x → Puts p0 a0 (registerText r) p1 a1 → Puts p1 a1 (space ++ (0x3D ∷ []) ++ space) p2 a2 → Puts p2 a2 (wordOf (t .rule)) p3 a3 → Puts p3 a3 space p4 a4 → v ≡ t .left → Puts p4 a4 (registerText v) p5 a5 → Puts p5 a5 (secondText (t .rule) (t .right)) p6 a6 → Puts p6 a6 newline p7 a7 → Puts p0 a0 (stepLine r x) p7 a7
   unfolding stepLine
   step-put r h l0 l1 l2 l3 d l4 l5 l6 =
       let m = subst (λ (u : List ℕ). Puts p0 a0 u p2 a2) (grouped (registerText r) space (0x3D ∷ []) space) (puts-then l0 l1) in
       rw (← h, ← d) (puts-then (puts-then (puts-then (puts-then (puts-then m l2) l3) l4) l5) l6)
 
-  pub test-put : {w : ℕ} {t : TestRead} {x : Test} → testIn t ≡ x → Puts p0 a0 (signalWord ++ space) p1 a1 → v ≡ t .first → Puts p1 a1 (registerText v) p2 a2 → Puts p2 a2 space p3 a3 → Puts p3 a3 (relationWord (relationOf (t .letter))) p4 a4 → Puts p4 a4 space p5 a5 → w ≡ t .second → Puts p5 a5 (registerText w) p6 a6 → Puts p6 a6 newline p7 a7 → Puts p0 a0 (testLine x) p7 a7
+  pub test-put : {w : ℕ} {t : TestRead} {x : Test} → testIn t ≡ x → Puts p0 a0 (signalWord ++ space) p1 a1 → v ≡ t .left → Puts p1 a1 (registerText v) p2 a2 → Puts p2 a2 space p3 a3 → Puts p3 a3 (relationWord (relationOf (t .letter))) p4 a4 → Puts p4 a4 space p5 a5 → w ≡ t .right → Puts p5 a5 (registerText w) p6 a6 → Puts p6 a6 newline p7 a7 → Puts p0 a0 (testLine x) p7 a7
   unfolding testLine
   test-put h l0 d l1 l2 l3 l4 e l5 l6 =
       rw (← h, ← d, ← e) (puts-then (puts-then (puts-then (puts-then (puts-then (puts-then l0 l1) l2) l3) l4) l5) l6)
@@ -73,6 +72,6 @@ steps-more r page n p e q = rw add-one (puts-then p (rw e at q))
 pub steps-all : {a b : List ℕ} {i j : ℕ} (r : ℕ) (page : List ℕ) (m n : ℕ) → m ≤ n → n ≤ m → Puts a i (stepLines r page m) b j → Puts a i (stepLines r page n) b j
 steps-all r page m n l h p = rw (← (le-antisymm l h)) p
 
-pub accepted-put : {p0 p1 p2 p3 p4 p5 : List ℕ} {a0 a1 a2 a3 a4 a5 v w : ℕ} (known n : ℕ) (page : List ℕ) → Puts p0 a0 (acceptedWord ++ space) p1 a1 → w ≡ n → Puts p1 a1 (decimal w) p2 a2 → Puts p2 a2 newline p3 a3 → v ≡ known → Puts p3 a3 (stepLines (v + 1) page n) p4 a4 → Puts p4 a4 (testLine (testOf page)) p5 a5 → Puts p0 a0 (answerText known (done n) page) p5 a5
+pub accepted-put : {p0 p1 p2 p3 p4 p5 : List ℕ} {a0 a1 a2 a3 a4 a5 v w : ℕ} (known n : ℕ) (page : List ℕ) → Puts p0 a0 (acceptedWord ++ space) p1 a1 → w ≡ n → Puts p1 a1 (decimal w) p2 a2 → Puts p2 a2 newline p3 a3 → v ≡ known → Puts p3 a3 (stepLines (v + 1) page n) p4 a4 → Puts p4 a4 (testLine (testAt page)) p5 a5 → Puts p0 a0 (answerText known (done n) page) p5 a5
 unfolding answerText
 accepted-put known n page l0 d l1 l2 e l3 l4 = puts-then (puts-then (puts-then (puts-then l0 (rw d at l1)) l2) (rw e at l3)) l4

@@ -1,12 +1,12 @@
 -- What the program `verdict` prints, as bytes: document 01, after 'Marked examples'.
 use mathlib.Core.Bool.{true, false, cond}
 use mathlib.Core.List.{List, [], _∷_, _++_}
-use mathlib.Core.Option.{Option, none, some}
 use Prim.Native.Nat.{ℕ, zero, suc, _+_, _/_, _%_}
 use lib.Dec.{ltb}
 use Rattle.term.specs.Rule.{wordOf, hasOne}
 use Rattle.base.specs.Answer.{Answer, done, refused}
-use Rattle.machine.specs.Program.{Instruction, Test, Relation, equal, inverse, relationOf, instructionAt, testOf}
+use Rattle.program.specs.Tests.{relationOf, relationWord}
+use Rattle.program.specs.Program.{Instruction, Test, instructionAt, testAt}
 
 -- a number in decimal, in ASCII; a number has fewer digits than itself and one
 unfoldable pub digits : ℕ → ℕ → List ℕ
@@ -44,18 +44,12 @@ secondText rule second = cond (hasOne rule) [] (space ++ registerText second)
 -- "Rule words are those of the table": the line of an instruction whose result goes to register r
 unfoldable pub stepLine : ℕ → Instruction → List ℕ
 stepLine r i =
-    registerText r ++ space ++ (0x3D ∷ []) ++ space ++ wordOf (i .rule) ++ space ++ registerText (i .first)
-    ++ secondText (i .rule) (i .second) ++ newline
-
--- "`i` prints as `hasinv`"
-abbrev pub relationWord : Option Relation → List ℕ
-relationWord none = []
-relationWord (some equal) = 0x3D ∷ []
-relationWord (some inverse) = 0x68 ∷ 0x61 ∷ 0x73 ∷ 0x69 ∷ 0x6E ∷ 0x76 ∷ []
+    registerText r ++ space ++ (0x3D ∷ []) ++ space ++ wordOf (i .rule) ++ space ++ registerText (i .left)
+    ++ secondText (i .rule) (i .right) ++ newline
 
 unfoldable pub testLine : Test → List ℕ
 testLine t =
-    signalWord ++ space ++ registerText (t .first) ++ space ++ relationWord (relationOf (t .letter)) ++ space ++ registerText (t .second) ++ newline
+    signalWord ++ space ++ registerText (t .left) ++ space ++ relationWord (relationOf (t .letter)) ++ space ++ registerText (t .right) ++ newline
 
 -- the lines of the first n instructions on a page, the first of which writes register r
 unfoldable pub stepLines : ℕ → List ℕ → ℕ → List ℕ
@@ -68,5 +62,5 @@ refusedText number place = refusedWord ++ space ++ decimal number ++ space ++ de
 -- "prints one line, `refused`, number, place, or `accepted` and N ..; after `accepted` come one line a step and the test"
 unfoldable pub answerText : ℕ → Answer → List ℕ → List ℕ
 answerText known (done n) page =
-    acceptedWord ++ space ++ decimal n ++ newline ++ stepLines (known + 1) page n ++ testLine (testOf page)
+    acceptedWord ++ space ++ decimal n ++ newline ++ stepLines (known + 1) page n ++ testLine (testAt page)
 answerText known (refused number place) page = refusedText number place

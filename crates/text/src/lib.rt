@@ -2,13 +2,15 @@
 // Promises: every function is total. What it writes is the text that a definition of specs/ gives, as far as the buffer reaches,
 // no other byte changes, and the result is the place reached (`Puts`).
 use base::wide16;
+use program::Asked;
 ghost use mathlib.Core.Path.{_≡_};
 ghost use mathlib.Core.List.{[], _∷_};
 ghost use Prim.Native.Nat.{_+_, _<_};
 ghost use Rattle.term.specs.Rule.{wordOf};
 ghost use Rattle.base.specs.Answer.{done};
-ghost use Rattle.machine.specs.Program.{instructionAt, testOf, relationOf};
-ghost use Rattle.text.specs.Text.{decimal, registerText, secondText, stepLine, stepLines, relationWord, testLine, answerText, refusedText};
+ghost use Rattle.program.specs.Tests.{relationOf, relationWord};
+ghost use Rattle.program.specs.Program.{instructionAt, testAt};
+ghost use Rattle.text.specs.Text.{decimal, registerText, secondText, stepLine, stepLines, testLine, answerText, refusedText};
 ghost use Rattle.text.specs.Puts.{Puts};
 
 // One byte; none where the buffer is full.
@@ -88,13 +90,13 @@ fn put_second(out: &mut [u8], at: usize, rule: u8, second: u8) -> usize
 fn put_step(out: &mut [u8], from: usize, r: u16, page: &[u8], i: u8) -> usize
     ensures { λ e. ⌜ Puts (now (out .entry)) from (stepLine r (instructionAt (now (page .entry)) i)) (now (out .exit)) e ⌝ }
 {
-    let read = machine::instruction_at(page, i);
+    let read = program::instruction_at(page, i);
     let at = put_register(out, from, r);
     let at = put_word(out, at, b" = ");
     let at = put_rule(out, at, read.rule);
     let at = put(out, at, b' ');
-    let at = put_register(out, at, wide16(read.first));
-    let at = put_second(out, at, read.rule, read.second);
+    let at = put_register(out, at, wide16(read.left));
+    let at = put_second(out, at, read.rule, read.right);
     put(out, at, b'\n')
 }
 
@@ -115,23 +117,24 @@ fn put_steps(out: &mut [u8], from: usize, r: u16, page: &[u8], n: u8) -> usize
 fn put_relation(out: &mut [u8], at: usize, letter: u8) -> usize
     ensures { λ r. ⌜ Puts (now (out .entry)) at (relationWord (relationOf letter)) (now (out .exit)) r ⌝ }
 {
-    match letter {
-        b'=' => put_word(out, at, b"="),
-        b'i' => put_word(out, at, b"hasinv"),
-        _ => at,
+    let relation = program::relation_of(letter);
+    match relation {
+        Asked::Equal => put_word(out, at, b"="),
+        Asked::Inverse => put_word(out, at, b"hasinv"),
+        Asked::Unknown => at,
     }
 }
 
 fn put_test(out: &mut [u8], from: usize, page: &[u8]) -> usize
-    ensures { λ r. ⌜ Puts (now (out .entry)) from (testLine (testOf (now (page .entry)))) (now (out .exit)) r ⌝ }
+    ensures { λ r. ⌜ Puts (now (out .entry)) from (testLine (testAt (now (page .entry)))) (now (out .exit)) r ⌝ }
 {
-    let t = machine::test_of(page);
+    let t = program::test_at(page);
     let at = put_word(out, from, b"signal ");
-    let at = put_register(out, at, wide16(t.first));
+    let at = put_register(out, at, wide16(t.left));
     let at = put(out, at, b' ');
     let at = put_relation(out, at, t.letter);
     let at = put(out, at, b' ');
-    let at = put_register(out, at, wide16(t.second));
+    let at = put_register(out, at, wide16(t.right));
     put(out, at, b'\n')
 }
 

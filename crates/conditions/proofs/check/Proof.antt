@@ -1,5 +1,5 @@
--- `checker::check` meets its contract: a law for each stage that passed or refused, in the order of the checks.
-use Rattle.conditions.proofs.Verdicts.{reading-out, reading-limited, steps-out, steps-registered, steps-founded, conditions-out, met-acceptable, page-out, page-room, page-written}
+-- `check` meets its contract: a law for each stage that passed or refused, in the order of the checks.
+use Rattle.conditions.proofs.Verdicts.{reading-out, reading-limited, reading-claim, steps-out, steps-registered, steps-founded, conditions-out, met-acceptable}
 use borrow.Author.Needs.{needs}
 use Rattle.conditions.proofs.check.Statement.{statement}
 use Rattle.conditions.proofs.check.Tie as tie
@@ -10,11 +10,14 @@ steps-requires c κs = search needs
 check-reading-requires : tie.Need-check-reading-requires
 check-reading-requires c κs = search needs
 
+enum-known-reading : tie.Need-enum-known-reading
+enum-known-reading c = search needs
+
 enum-told : tie.Need-enum-told
 enum-told c = search needs
 
-enum-told-2 : tie.Need-enum-told-2
-enum-told-2 c = search needs
+stage-of-requires : tie.Need-stage-of-requires
+stage-of-requires c κs = search needs
 
 verdict-of-requires : tie.Need-verdict-of-requires
 verdict-of-requires c κs = search needs
@@ -25,11 +28,11 @@ returns c = search reading-out
 check-steps-requires : tie.Need-check-steps-requires
 check-steps-requires c κs = search reading-limited
 
+enum-told-2 : tie.Need-enum-told-2
+enum-told-2 c = search needs
+
 enum-told-3 : tie.Need-enum-told-3
 enum-told-3 c = search needs
-
-enum-told-4 : tie.Need-enum-told-4
-enum-told-4 c = search needs
 
 verdict-of-requires-2 : tie.Need-verdict-of-requires-2
 verdict-of-requires-2 c κs = search needs
@@ -38,13 +41,13 @@ returns-2 : tie.Need-returns-2
 returns-2 c = search steps-out
 
 check-conditions-requires : tie.Need-check-conditions-requires
-check-conditions-requires c κs = (search steps-founded, search steps-registered)
+check-conditions-requires c κs = (search steps-founded, (search steps-registered, search reading-claim))
+
+enum-told-4 : tie.Need-enum-told-4
+enum-told-4 c = search needs
 
 enum-told-5 : tie.Need-enum-told-5
 enum-told-5 c = search needs
-
-enum-told-6 : tie.Need-enum-told-6
-enum-told-6 c = search needs
 
 verdict-of-requires-3 : tie.Need-verdict-of-requires-3
 verdict-of-requires-3 c κs = search needs
@@ -52,32 +55,14 @@ verdict-of-requires-3 c κs = search needs
 returns-3 : tie.Need-returns-3
 returns-3 c = search conditions-out
 
-check-page-requires : tie.Need-check-page-requires
-check-page-requires c κs = search needs
-
-enum-told-7 : tie.Need-enum-told-7
-enum-told-7 c = search needs
-
-enum-told-8 : tie.Need-enum-told-8
-enum-told-8 c = search needs
-
-verdict-of-requires-4 : tie.Need-verdict-of-requires-4
-verdict-of-requires-4 c κs = search needs
+accept-requires : tie.Need-accept-requires
+accept-requires c κs = (search met-acceptable, (search steps-registered, search reading-claim))
 
 same-length : tie.Need-same-length
 same-length c = search needs
 
 returns-4 : tie.Need-returns-4
-returns-4 c = search page-out
-
-write-program-requires : tie.Need-write-program-requires
-write-program-requires c κs = (search met-acceptable, (search steps-registered, search page-room))
-
-same-length-2 : tie.Need-same-length-2
-same-length-2 c = search needs
-
-returns-5 : tie.Need-returns-5
-returns-5 c = search page-written
+returns-4 c = search needs
 
 pub check-spec : {M : Type 1} → statement M
 check-spec =
@@ -85,26 +70,21 @@ check-spec =
     (tie.spec
     steps-requires
     check-reading-requires
+    enum-known-reading
     enum-told
-    enum-told-2
+    stage-of-requires
     verdict-of-requires
     returns
     check-steps-requires
+    enum-told-2
     enum-told-3
-    enum-told-4
     verdict-of-requires-2
     returns-2
     check-conditions-requires
+    enum-told-4
     enum-told-5
-    enum-told-6
     verdict-of-requires-3
     returns-3
-    check-page-requires
-    enum-told-7
-    enum-told-8
-    verdict-of-requires-4
+    accept-requires
     same-length
-    returns-4
-    write-program-requires
-    same-length-2
-    returns-5)
+    returns-4)

@@ -37,8 +37,8 @@ loop-less c = search needs
 loop-again : tie.Need-loop-again Inv-loop μ-loop
 loop-again c = (search needs, search entry-written)
 
-claim-of-requires : tie.Need-claim-of-requires Inv-loop μ-loop
-claim-of-requires c κs = search needs
+claim-bytes-requires : tie.Need-claim-bytes-requires Inv-loop μ-loop
+claim-bytes-requires c κs = search needs
 
 with-requires-2 : tie.Need-with-requires-2 Inv-loop μ-loop
 with-requires-2 c κs = omega arith
@@ -60,6 +60,6 @@ initial-spec =
     add-i
     loop-less
     loop-again
-    claim-of-requires
+    claim-bytes-requires
     with-requires-2
     returns)

@@ -1,5 +1,5 @@
 -- `are_inverse` meets its contract, a law for each return.
-use Rattle.machine.proofs.Finds.{other-name, public-first, private-first, no-key}
+use Rattle.machine.proofs.theory.NodeSearch.{other-name, public-first, private-first, no-key}
 use Rattle.machine.proofs.are_inverse.Statement.{statement}
 use Rattle.machine.proofs.are_inverse.Tie as tie
 

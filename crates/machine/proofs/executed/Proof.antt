@@ -2,7 +2,7 @@
 use borrow.Author.Needs.{needs}
 use Prim.Native.Nat.{_-_, _≤_}
 use Rattle.machine.specs.Code.{Running}
-use Rattle.machine.proofs.Runs.{running-none, running-more, running-all, instruction-executable}
+use Rattle.machine.proofs.theory.RunAnswer.{running-none, running-more, running-all, instruction-executable}
 use Rattle.machine.proofs.executed.Statement.{statement}
 use Rattle.machine.proofs.executed.Tie as tie
 

@@ -1,5 +1,5 @@
 -- `initial` meets its contract: the guess's atom goes to the next register.
-use Rattle.machine.proofs.Loads.{guess-fits, guess-fit, guess-space, guess-started}
+use Rattle.machine.proofs.theory.StartState.{guess-fits, guess-fit, guess-space, guess-started}
 use borrow.Author.Needs.{needs}
 use Rattle.machine.proofs.initial.Statement.{statement}
 use Rattle.machine.proofs.initial.Tie as tie
@@ -7,8 +7,8 @@ use Rattle.machine.proofs.initial.Tie as tie
 with-knowledge-requires : tie.Need-with-knowledge-requires
 with-knowledge-requires c κs = search needs
 
-claim-of-requires : tie.Need-claim-of-requires
-claim-of-requires c κs = search needs
+claim-bytes-requires : tie.Need-claim-bytes-requires
+claim-bytes-requires c κs = search needs
 
 term-at-requires : tie.Need-term-at-requires
 term-at-requires c κs = search needs
@@ -30,7 +30,7 @@ initial-spec =
     tie.close
     (tie.spec
     with-knowledge-requires
-    claim-of-requires
+    claim-bytes-requires
     term-at-requires
     add-t8
     intern-requires

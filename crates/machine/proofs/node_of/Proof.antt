@@ -1,6 +1,6 @@
 -- `node_of` meets its contract: three compound kinds, and atoms.
 use Rattle.term.specs.Term.{symmetric, asymmetric, pair, encrypt}
-use Rattle.machine.proofs.Loads.{node-compound, node-atomic, atom-kind-fits}
+use Rattle.machine.proofs.theory.StartState.{node-compound, node-atomic, atom-kind-fits}
 use borrow.Author.Needs.{needs}
 use Rattle.machine.proofs.node_of.Statement.{statement}
 use Rattle.machine.proofs.node_of.Tie as tie

@@ -1,6 +1,6 @@
 -- `run` answers what checks 1 to 5, check 13 and the machine give.
 use Rattle.base.proofs.StageLaws.{bytes}
-use Rattle.machine.proofs.Runs.{read, test-ready, run-stopped, run-refused, run-signals}
+use Rattle.machine.proofs.theory.RunAnswer.{read, test-ready, run-stopped, run-refused, run-signals}
 use Rattle.base.proofs.Bools.{flag}
 use borrow.Author.Needs.{needs}
 use Rattle.machine.proofs.run.Statement.{statement}
@@ -9,11 +9,14 @@ use Rattle.machine.proofs.run.Tie as tie
 check-reading-requires : tie.Need-check-reading-requires
 check-reading-requires c κs = search needs
 
+enum-known-reading : tie.Need-enum-known-reading
+enum-known-reading c = search needs
+
 enum-told : tie.Need-enum-told
 enum-told c = search needs
 
-enum-told-2 : tie.Need-enum-told-2
-enum-told-2 c = search needs
+stage-of-requires : tie.Need-stage-of-requires
+stage-of-requires c κs = search needs
 
 answered-by-requires : tie.Need-answered-by-requires
 answered-by-requires c κs = search needs
@@ -41,8 +44,9 @@ run-spec =
     tie.close
     (tie.spec
     check-reading-requires
+    enum-known-reading
     enum-told
-    enum-told-2
+    stage-of-requires
     answered-by-requires
     returns
     is-program-bad-requires

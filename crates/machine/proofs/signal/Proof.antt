@@ -1,11 +1,11 @@
--- `signal` meets its contract: the two tests, and no other letter.
-use Rattle.machine.proofs.Runs.{left-below, right-below, signal-equal, signal-inverse, signal-none}
+-- `signal` meets its contract, a law for each relation.
+use Rattle.machine.proofs.theory.RunAnswer.{left-below, right-below, signal-equal, signal-inverse, signal-none}
 use borrow.Author.Needs.{needs}
 use Rattle.machine.proofs.signal.Statement.{statement}
 use Rattle.machine.proofs.signal.Tie as tie
 
-test-of-requires : tie.Need-test-of-requires
-test-of-requires c κs = search needs
+test-at-requires : tie.Need-test-at-requires
+test-at-requires c κs = search needs
 
 wide-requires : tie.Need-wide-requires
 wide-requires c κs = search needs
@@ -25,17 +25,29 @@ mul-b c = search needs
 element-copy-out-b : tie.Need-element-copy-out-b
 element-copy-out-b c = search needs
 
+relation-of-requires : tie.Need-relation-of-requires
+relation-of-requires c κs = search needs
+
+enum-told : tie.Need-enum-told
+enum-told c = search needs
+
 bit-requires : tie.Need-bit-requires
 bit-requires c κs = search needs
 
-returns : tie.Need-returns
-returns c = search signal-equal
+enum-told-2 : tie.Need-enum-told-2
+enum-told-2 c = search needs
 
 do-match-requires : tie.Need-do-match-requires
 do-match-requires c κs = (search needs, (search left-below, (search right-below, search needs)))
 
 bit-requires-2 : tie.Need-bit-requires-2
 bit-requires-2 c κs = search needs
+
+enum-told-3 : tie.Need-enum-told-3
+enum-told-3 c = search needs
+
+returns : tie.Need-returns
+returns c = search signal-equal
 
 returns-2 : tie.Need-returns-2
 returns-2 c = search signal-inverse
@@ -47,16 +59,20 @@ pub signal-spec : {M : Type 1} → statement M
 signal-spec =
     tie.close
     (tie.spec
-    test-of-requires
+    test-at-requires
     wide-requires
     wide-requires-2
     mul-a
     element-copy-out-a
     mul-b
     element-copy-out-b
+    relation-of-requires
+    enum-told
     bit-requires
-    returns
+    enum-told-2
     do-match-requires
     bit-requires-2
+    enum-told-3
+    returns
     returns-2
     returns-3)

@@ -2,7 +2,7 @@
 use borrow.Author.Needs.{needs}
 use Prim.Native.Nat.{_-_, _≤_}
 use Rattle.machine.specs.Code.{knowledge, Loaded}
-use Rattle.machine.proofs.Loads.{knowledge-none, knowledge-more, knowledge-all, entry-below, entry-space}
+use Rattle.machine.proofs.theory.StartState.{knowledge-none, knowledge-more, knowledge-all, entry-below, entry-space}
 use Rattle.machine.proofs.with_knowledge.Statement.{statement}
 use Rattle.machine.proofs.with_knowledge.Tie as tie
 

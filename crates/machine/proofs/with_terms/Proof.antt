@@ -1,7 +1,7 @@
 -- `with_terms` meets its contract: the first t terms are in the arrays.
 use borrow.Author.Needs.{needs}
 use Prim.Native.Nat.{_-_, _≤_}
-use Rattle.machine.proofs.Loads.{Filled, filled-none, filled-more, terms-loaded}
+use Rattle.machine.proofs.theory.StartState.{Filled, filled-none, filled-more, terms-loaded}
 use Rattle.machine.proofs.with_terms.Statement.{statement}
 use Rattle.machine.proofs.with_terms.Tie as tie
 

@@ -1,6 +1,5 @@
 -- `check_reading` meets its contract: checks 1 to 4, then check 5.
-use Rattle.base.proofs.StageLaws.{stopped, went-on}
-use Rattle.submission.specs.Check.{checks1to5}
+use Rattle.submission.proofs.Claims.{reading-refused, reading-goes-on}
 use borrow.Author.Needs.{needs}
 use Rattle.submission.proofs.check_reading.Statement.{statement}
 use Rattle.submission.proofs.check_reading.Tie as tie
@@ -8,24 +7,22 @@ use Rattle.submission.proofs.check_reading.Tie as tie
 check-body-requires : tie.Need-check-body-requires
 check-body-requires c κs = search needs
 
+enum-known-body : tie.Need-enum-known-body
+enum-known-body c = search needs
+
 enum-told : tie.Need-enum-told
 enum-told c = search needs
-
-enum-told-2 : tie.Need-enum-told-2
-enum-told-2 c = search needs
-
-returns : tie.Need-returns
-unfolding checks1to5
-returns c = search stopped
 
 check-claim-requires : tie.Need-check-claim-requires
 check-claim-requires c κs = search needs
 
+returns : tie.Need-returns
+returns c = search reading-goes-on
+
 returns-2 : tie.Need-returns-2
-unfolding checks1to5
-returns-2 c = search went-on
+returns-2 c = search reading-refused
 
 pub check-reading-spec : {M : Type 1} → statement M
 check-reading-spec =
     tie.close
-    (tie.spec check-body-requires enum-told enum-told-2 returns check-claim-requires returns-2)
+    (tie.spec check-body-requires enum-known-body enum-told check-claim-requires returns returns-2)

@@ -7,9 +7,6 @@ use borrow.Author.Needs.{needs}
 use Rattle.submission.proofs.is_claim_good.Statement.{statement}
 use Rattle.submission.proofs.is_claim_good.Tie as tie
 
-claim-of-requires : tie.Need-claim-of-requires
-claim-of-requires c κs = search needs
-
 terms-requires : tie.Need-terms-requires
 terms-requires c κs = search needs
 
@@ -27,31 +24,21 @@ returns-2 : tie.Need-returns-2
 unfolding goodClaim
 returns-2 c = search (chain, below-ltb, guess-atom, not-true, not-false)
 
-steps-requires : tie.Need-steps-requires
-steps-requires c κs = search needs
+claim-fits-requires : tie.Need-claim-fits-requires
+claim-fits-requires c κs = search needs
 
 returns-3 : tie.Need-returns-3
 unfolding goodClaim
-returns-3 c = search (chain, below-ltb, above-ltb, guess-atom, not-true, not-false)
-
-companion-fits-requires : tie.Need-companion-fits-requires
-companion-fits-requires c κs = search needs
-
-returns-4 : tie.Need-returns-4
-unfolding goodClaim
-returns-4 c = search (chain, below-ltb, guess-atom, not-true, not-false)
+returns-3 c = search (chain, below-ltb, guess-atom, not-true, not-false)
 
 pub is-claim-good-spec : {M : Type 1} → statement M
 is-claim-good-spec =
     tie.close
     (tie.spec
-    claim-of-requires
     terms-requires
     returns
     term-at-requires
     is-atom-requires
     returns-2
-    steps-requires
-    returns-3
-    companion-fits-requires
-    returns-4)
+    claim-fits-requires
+    returns-3)

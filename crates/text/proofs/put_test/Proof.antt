@@ -4,8 +4,8 @@ use borrow.Author.Needs.{needs}
 use Rattle.text.proofs.put_test.Statement.{statement}
 use Rattle.text.proofs.put_test.Tie as tie
 
-test-of-requires : tie.Need-test-of-requires
-test-of-requires c κs = search needs
+test-at-requires : tie.Need-test-at-requires
+test-at-requires c κs = search needs
 
 slice-aggregate-put-word : tie.Need-slice-aggregate-put-word
 slice-aggregate-put-word c = search needs
@@ -50,13 +50,13 @@ returns c =
     let first = space1 .before .before .before .before in
     let signal = first .before .before .before .before .before in
     let read = signal .before .before .before in
-    test-put (read .test-of .ensures) (signal .put-word .ensures) (first .before .wide16 .ensures) (first .put-register .ensures) (space1 .put .ensures) (related .put-relation .ensures) (space2 .put2 .ensures) (second .before .wide162 .ensures) (second .put-register2 .ensures) (ended .put3 .ensures)
+    test-put (read .test-at .ensures) (signal .put-word .ensures) (first .before .wide16 .ensures) (first .put-register .ensures) (space1 .put .ensures) (related .put-relation .ensures) (space2 .put2 .ensures) (second .before .wide162 .ensures) (second .put-register2 .ensures) (ended .put3 .ensures)
 
 pub put-test-spec : {M : Type 1} → statement M
 put-test-spec =
     tie.close
     (tie.spec
-    test-of-requires
+    test-at-requires
     slice-aggregate-put-word
     put-word-requires
     wide16-requires

@@ -1,4 +1,7 @@
--- `checker::conditions::check_conditions` meets its contract: the three stages in order.
+-- `check_conditions` meets its contract: checks 8 to 10, in this order.
+use Rattle.conditions.proofs.Standing.{founded}
+use Rattle.base.proofs.StageLaws.{stopped, went-on}
+-- `check_conditions` meets its contract: checks 8 to 10, in this order.
 use Rattle.conditions.proofs.Standing.{founded}
 use Rattle.base.proofs.StageLaws.{stopped, went-on}
 use borrow.Author.Needs.{needs}

@@ -1,13 +1,10 @@
--- `checker::conditions::check_reachable` meets its contract: the place is the verifying step.
+-- `check_reachable` meets its contract: check 8.
 use Rattle.base.proofs.Scan.{scan}
 use Rattle.base.proofs.StageLaws.{passes-if}
 use Rattle.conditions.proofs.Standing.{fails-at-step}
 use borrow.Author.Needs.{needs}
 use Rattle.conditions.proofs.conditions.check_reachable.Statement.{statement}
 use Rattle.conditions.proofs.conditions.check_reachable.Tie as tie
-
-claim-of-requires : tie.Need-claim-of-requires
-claim-of-requires c κs = search needs
 
 is-reachable-requires : tie.Need-is-reachable-requires
 is-reachable-requires c κs = search needs
@@ -22,5 +19,4 @@ returns-2 : tie.Need-returns-2
 returns-2 c = search (passes-if, scan)
 
 pub check-reachable-spec : {M : Type 1} → statement M
-check-reachable-spec =
-    tie.close (tie.spec claim-of-requires is-reachable-requires wide16-requires returns returns-2)
+check-reachable-spec = tie.close (tie.spec is-reachable-requires wide16-requires returns returns-2)

@@ -1,13 +1,10 @@
--- `checker::conditions::check_second_way` meets its contract: the place is the verifying step.
+-- `check_second_way` meets its contract: check 9.
 use Rattle.base.proofs.Scan.{scan}
 use Rattle.base.proofs.StageLaws.{passes-if}
 use Rattle.conditions.proofs.Standing.{fails-at-step}
 use borrow.Author.Needs.{needs}
 use Rattle.conditions.proofs.conditions.check_second_way.Statement.{statement}
 use Rattle.conditions.proofs.conditions.check_second_way.Tie as tie
-
-claim-of-requires : tie.Need-claim-of-requires
-claim-of-requires c κs = search needs
 
 has-second-way-requires : tie.Need-has-second-way-requires
 has-second-way-requires c κs = search needs
@@ -23,5 +20,4 @@ returns-2 c = search (fails-at-step, scan)
 
 pub check-second-way-spec : {M : Type 1} → statement M
 check-second-way-spec =
-    tie.close
-    (tie.spec claim-of-requires has-second-way-requires returns wide16-requires returns-2)
+    tie.close (tie.spec has-second-way-requires returns wide16-requires returns-2)

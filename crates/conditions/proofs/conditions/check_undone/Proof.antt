@@ -1,4 +1,4 @@
--- `checker::conditions::check_undone` meets its contract: the loop looks for the first undone step.
+-- `check_undone` meets its contract: no step before i is undone.
 use Prim.Native.Nat.{_-_}
 use Rattle.base.proofs.First.{Passed}
 use Rattle.base.proofs.StageLaws.{fails-hit, passes-all}
@@ -8,10 +8,10 @@ use Rattle.conditions.proofs.conditions.check_undone.Statement.{stateme
 use Rattle.conditions.proofs.conditions.check_undone.Tie as tie
 
 abbrev Inv-loop : tie.InvT-loop
-Inv-loop s n i₀ i = Passed (undone s) n i
+Inv-loop s claim n i₀ i = Passed (undone s) n i
 
 abbrev μ-loop : tie.MeasureT-loop
-μ-loop s n i₀ i = n - i
+μ-loop s claim n i₀ i = n - i
 
 steps-requires : tie.Need-steps-requires Inv-loop μ-loop
 steps-requires c κs = search scan

@@ -1,11 +1,8 @@
--- `checker::conditions::is_reachable` meets its contract: both premises are listed terms.
+-- `is_reachable` meets its contract: both premises are listed terms.
 use Rattle.conditions.proofs.Standing.{founded}
 use borrow.Author.Needs.{needs}
 use Rattle.conditions.proofs.conditions.is_reachable.Statement.{statement}
 use Rattle.conditions.proofs.conditions.is_reachable.Tie as tie
-
-claim-of-requires : tie.Need-claim-of-requires
-claim-of-requires c κs = search needs
 
 step-at-requires : tie.Need-step-at-requires
 step-at-requires c κs = search needs
@@ -21,5 +18,4 @@ returns c = search founded
 
 pub is-reachable-spec : {M : Type 1} → statement M
 is-reachable-spec =
-    tie.close
-    (tie.spec claim-of-requires step-at-requires second-of-requires are-deducible-requires returns)
+    tie.close (tie.spec step-at-requires second-of-requires are-deducible-requires returns)

@@ -1,18 +1,18 @@
--- `checker::conditions::is_undone` meets its contract: the verifying step, then in way a the companion.
+-- `is_undone` meets its contract: the verifying step, then the companion where the way asks for it.
 use Rattle.conditions.proofs.Undone.{undoing}
 use Rattle.base.proofs.Scan.{scan}
 use borrow.Author.Needs.{needs}
 use Rattle.conditions.proofs.conditions.is_undone.Statement.{statement}
 use Rattle.conditions.proofs.conditions.is_undone.Tie as tie
 
-claim-of-requires : tie.Need-claim-of-requires
-claim-of-requires c κs = search needs
-
 undoes-step-requires : tie.Need-undoes-step-requires
 undoes-step-requires c κs = search needs
 
 returns : tie.Need-returns
 returns c = search (undoing, scan)
+
+row-of-requires : tie.Need-row-of-requires
+row-of-requires c κs = search needs
 
 undoes-step-requires-2 : tie.Need-undoes-step-requires-2
 undoes-step-requires-2 c κs = search needs
@@ -27,9 +27,9 @@ pub is-undone-spec : {M : Type 1} → statement M
 is-undone-spec =
     tie.close
     (tie.spec
-    claim-of-requires
     undoes-step-requires
     returns
+    row-of-requires
     undoes-step-requires-2
     returns-2
     returns-3)

@@ -1,64 +1,20 @@
--- `checker::page::write_program` meets its contract: the count, the instructions on the lent rest, and the test behind them.
-use native.Mathlib.Omega.{arith}
-use lib.ListN.{length-take, length-drop}
-use Rattle.conditions.proofs.Writing.{program-written}
+-- `write_program` meets its contract: the value that was computed is written.
+use Rattle.conditions.proofs.Writing.{count-few, count-room, value-written}
 use borrow.Author.Needs.{needs}
 use Rattle.conditions.proofs.page.write_program.Statement.{statement}
 use Rattle.conditions.proofs.page.write_program.Tie as tie
 
-steps-requires : tie.Need-steps-requires
-steps-requires c κs = search needs
+program-of-requires : tie.Need-program-of-requires
+program-of-requires c κs = search needs
 
-test-of-requires : tie.Need-test-of-requires
-test-of-requires c κs = search needs
-
-put-requires : tie.Need-put-requires
-put-requires c κs = search needs
-
-sub-write-instructions : tie.Need-sub-write-instructions
-sub-write-instructions c = search needs
-
-part-write-instructions-start : tie.Need-part-write-instructions-start
-part-write-instructions-start c = search needs
-
-part-write-instructions-end : tie.Need-part-write-instructions-end
-part-write-instructions-end c = search needs
-
-write-instructions-requires : tie.Need-write-instructions-requires
-write-instructions-requires c κs = (search needs, (search needs, simp (length-take, length-drop) (omega arith)))
-
-wide-requires : tie.Need-wide-requires
-wide-requires c κs = search needs
-
-mul-put-three : tie.Need-mul-put-three
-mul-put-three c = search needs
-
-add-put-three : tie.Need-add-put-three
-add-put-three c = search needs
-
-put-three-requires : tie.Need-put-three-requires
-put-three-requires c κs = search needs
+write-requires : tie.Need-write-requires
+write-requires c κs = (search count-few, search count-room)
 
 same-length : tie.Need-same-length
 same-length c = search needs
 
 returns : tie.Need-returns
-returns c = search program-written
+returns c = search value-written
 
 pub write-program-spec : {M : Type 1} → statement M
-write-program-spec =
-    tie.close
-    (tie.spec
-    steps-requires
-    test-of-requires
-    put-requires
-    sub-write-instructions
-    part-write-instructions-start
-    part-write-instructions-end
-    write-instructions-requires
-    wide-requires
-    mul-put-three
-    add-put-three
-    put-three-requires
-    same-length
-    returns)
+write-program-spec = tie.close (tie.spec program-of-requires write-requires same-length returns)

@@ -1,5 +1,5 @@
 -- `cancelled` meets its contract: another head, another key, or the reduction.
-use Rattle.machine.proofs.Reductions.{left-below, right-below, cancel-other, cancel-key, cancel-here}
+use Rattle.machine.proofs.theory.NodeReductions.{left-below, right-below, cancel-other, cancel-key, cancel-here}
 use borrow.Author.Needs.{needs}
 use Rattle.machine.proofs.Machine.cancelled.Statement.{statement}
 use Rattle.machine.proofs.Machine.cancelled.Tie as tie

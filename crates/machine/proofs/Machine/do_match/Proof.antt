@@ -1,5 +1,5 @@
 -- `do_match` meets its contract: one key, or a key and its inverse.
-use Rattle.machine.proofs.Keys.{one-key, inverse-keys}
+use Rattle.machine.proofs.theory.KeyNodes.{one-key, inverse-keys}
 use borrow.Author.Needs.{needs}
 use Rattle.machine.proofs.Machine.do_match.Statement.{statement}
 use Rattle.machine.proofs.Machine.do_match.Tie as tie

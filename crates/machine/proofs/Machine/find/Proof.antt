@@ -1,5 +1,5 @@
 -- `find` meets its contract: no node before i is the one that is looked for.
-use Rattle.machine.proofs.Finds.{found-here, found-later, found-none}
+use Rattle.machine.proofs.theory.NodeSearch.{found-here, found-later, found-none}
 use Prim.Native.Nat.{_-_}
 use Rattle.base.proofs.Scan.{scan}
 use Rattle.base.proofs.First.{Passed}

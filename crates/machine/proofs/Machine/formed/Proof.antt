@@ -1,5 +1,5 @@
 -- `formed` meets its contract: the node goes in, and its number to the next register.
-use Rattle.machine.proofs.Reductions.{form-fit, form-gives}
+use Rattle.machine.proofs.theory.NodeReductions.{form-fit, form-gives}
 use borrow.Author.Needs.{needs}
 use Rattle.machine.proofs.Machine.formed.Statement.{statement}
 use Rattle.machine.proofs.Machine.formed.Tie as tie

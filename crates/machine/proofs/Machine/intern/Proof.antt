@@ -1,5 +1,5 @@
 -- `intern` meets its contract: the node was there, or it is new.
-use Rattle.machine.proofs.Finds.{node-there, node-made}
+use Rattle.machine.proofs.theory.NodeSearch.{node-there, node-made}
 use borrow.Author.Needs.{needs}
 use Rattle.machine.proofs.Machine.intern.Statement.{statement}
 use Rattle.machine.proofs.Machine.intern.Tie as tie

@@ -1,5 +1,5 @@
 -- `paired` meets its contract: the reduction, or the rule's own node.
-use Rattle.machine.proofs.Reductions.{pair-below, pair-here, pair-other}
+use Rattle.machine.proofs.theory.NodeReductions.{pair-below, pair-here, pair-other}
 use borrow.Author.Needs.{needs}
 use Rattle.machine.proofs.Machine.paired.Statement.{statement}
 use Rattle.machine.proofs.Machine.paired.Tie as tie

@@ -1,5 +1,5 @@
 -- `parted` meets its contract: the rule's own node, or the reduction.
-use Rattle.machine.proofs.Reductions.{part-below, part-here, part-other}
+use Rattle.machine.proofs.theory.NodeReductions.{part-below, part-here, part-other}
 use borrow.Author.Needs.{needs}
 use Rattle.machine.proofs.Machine.parted.Statement.{statement}
 use Rattle.machine.proofs.Machine.parted.Tie as tie

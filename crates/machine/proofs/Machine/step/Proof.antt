@@ -1,5 +1,5 @@
 -- `step` executes one instruction: each rule's arm does what the rule's reductions say.
-use Rattle.machine.proofs.Executes.{operands-ready, operand-ready, fst-parts, snd-parts, enc-cancels, dec-cancels, enca-cancels, deca-cancels, last-rule, step-pair, step-part, step-cancel}
+use Rattle.machine.proofs.theory.InstructionResult.{operands-ready, operand-ready, fst-parts, snd-parts, enc-cancels, dec-cancels, enca-cancels, deca-cancels, last-rule, step-pair, step-part, step-cancel}
 use borrow.Author.Needs.{needs}
 use Rattle.machine.proofs.Machine.step.Statement.{statement}
 use Rattle.machine.proofs.Machine.step.Tie as tie

@@ -1,5 +1,5 @@
 -- `with_register` meets its contract: one register more.
-use Rattle.machine.proofs.States.{register-stored}
+use Rattle.machine.proofs.theory.StateGrowth.{register-stored}
 use borrow.Author.Needs.{needs}
 use Rattle.machine.proofs.Machine.with_register.Statement.{statement}
 use Rattle.machine.proofs.Machine.with_register.Tie as tie

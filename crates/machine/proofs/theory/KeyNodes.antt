@@ -1,0 +1,60 @@
+-- Keys of opposite operations, by their nodes.
+use mathlib.Core.Path.{_≡_, refl, sym, ap, _∙_, subst}
+use mathlib.Core.Bool.{Bool}
+use mathlib.Core.Logic.{_⊎_, inl, inr, ⊎-elim}
+use Prim.Native.Nat.{ℕ, _+_, _<_}
+use lib.Dec.{eqb}
+use borrow.Author.Tests.{eq-eqb, eqb-true}
+use Rattle.base.proofs.Says.{Says, says-eqb, says-and, says-or, same-test}
+use Rattle.term.specs.Term.{Kind, plain, public, private, otherKind, symmetric, asymmetric, Term, atom, node, inverse, isKey, test, term?, Match}
+use Rattle.term.specs.Reduce.{match?}
+use Rattle.term.proofs.Reduce.{says-test}
+use Rattle.term.proofs.Table.{decode-inj}
+use Rattle.submission.specs.Record.{kindOf, atomic}
+use Rattle.machine.specs.declared.Node.{Node}
+use Rattle.machine.specs.declared.Machine.{Machine}
+use Rattle.machine.specs.declared.Cipher.{Cipher}
+use Rattle.machine.specs.declared.Cipher.the-variants.{Symmetric, Asymmetric}
+use Rattle.machine.specs.Code.{cipherOf, nodeIn, inverseNodes, termAt, SoundState}
+use Rattle.machine.proofs.theory.NodeRecords.{atom-term, atom-node}
+
+-- a test that says what was decided is that decision
+decided : {P : Type 0} {b : Bool} (d : Dec P) → Says b P → b ≡ test d
+decided {b = b} d w = same-test b (test d) w (says-test d)
+
+module _ {m : Machine} {k j : ℕ} (w : SoundState m) (l : k < m .nodes) (n : j < m .nodes) where
+  pub one-key : {c : Cipher} → c ≡ Symmetric → eqb k j ≡ test (match? (cipherOf c) (termAt m k) (termAt m j))
+  one-key q = rw q (decided (match? symmetric _ _) (λ e. record { fits = tt; turned = sym (ap (termAt m) (eqb-true k j e)) }, λ u. eq-eqb k j (sym (decode-inj (w .table) j k n l (u .turned)))))
+
+  pub one-term : eqb k j ≡ test (term? (termAt m j) (termAt m k))
+  one-term = decided (term? _ _) (λ e. sym (ap (termAt m) (eqb-true k j e)), λ u. eq-eqb k j (sym (decode-inj (w .table) j k n l u)))
+
+  -- a key's node, and its inverse's
+  of-kind : (κ : Kind) → isKey (atom κ 0) → nodeIn m k .head ≡ 128 + kindOf (atomic κ) → nodeIn m j .head ≡ 128 + kindOf (atomic (otherKind κ)) → nodeIn m k .left ≡ nodeIn m j .left →
+      Match asymmetric (termAt m k) (termAt m j)
+  of-kind κ i a b q =
+      let t = atom-term w l κ a in
+      record { fits = subst isKey (sym t) (named κ (nodeIn m k .left) i); turned = atom-term w n (otherKind κ) b ∙ ap (atom (otherKind κ)) (sym q) ∙ sym (ap inverse t) }
+    where
+      named : (κ : Kind) (x : ℕ) → isKey (atom κ 0) → isKey (atom κ x)
+      named plain x i = i
+      named public x i = i
+      named private x i = i
+
+  heads-of : (t : Term) → termAt m k ≡ t → isKey t → termAt m j ≡ inverse t →
+      (((nodeIn m k .head ≡ 130) × (nodeIn m j .head ≡ 131)) ⊎ ((nodeIn m k .head ≡ 131) × (nodeIn m j .head ≡ 130))) × (nodeIn m k .left ≡ nodeIn m j .left)
+  heads-of (atom plain x) e i f = absurd i
+  heads-of (atom public x) e i f = let u = atom-node w l e in let v = atom-node w n f in (inl (u .0, v .0), u .1 ∙ sym (v .1))
+  heads-of (atom private x) e i f = let u = atom-node w l e in let v = atom-node w n f in (inr (u .0, v .0), u .1 ∙ sym (v .1))
+  heads-of (node h a b) e i f = absurd i
+
+  says-inverse : Says (inverseNodes (nodeIn m k) (nodeIn m j)) (Match asymmetric (termAt m k) (termAt m j))
+  unfolding inverseNodes
+  says-inverse =
+      let s = says-and _ _ (says-or _ _ (says-and _ _ (says-eqb (nodeIn m k .head) 130) (says-eqb (nodeIn m j .head) 131)) (says-and _ _ (says-eqb (nodeIn m k .head) 131) (says-eqb (nodeIn m j .head) 130))) (says-eqb (nodeIn m k .left) (nodeIn m j .left)) in (
+        λ e. let u = s .0 e in ⊎-elim (λ v. of-kind public tt (v .0) (v .1) (u .1)) (λ v. of-kind private tt (v .0) (v .1) (u .1)) (u .0),
+        λ u. s .1 (heads-of (termAt m k) refl (u .fits) (u .turned)),
+      )
+
+  pub inverse-keys : {c : Cipher} {f : Bool} {x y : Node} → c ≡ Asymmetric → x ≡ nodeIn m k → y ≡ nodeIn m j → f ≡ inverseNodes x y → f ≡ test (match? (cipherOf c) (termAt m k) (termAt m j))
+  inverse-keys q e g t = t ∙ rw (e, g, q) (decided (match? asymmetric _ _) says-inverse)

@@ -1,0 +1,62 @@
+-- Nodes and records, one for one; and the node of a term, by the term's head.
+use mathlib.Core.Path.{_≡_, refl, sym, ap, _∙_}
+use Prim.Native.Nat.{ℕ, _+_, _<_}
+use Rattle.term.specs.Term.{Kind, plain, public, private, symmetric, asymmetric, left, right, Head, pair, part, encrypt, decrypt, Term, atom, node}
+use Rattle.term.specs.Table.{Rec, leaf, branch, message}
+use Rattle.term.specs.Rule.{headOf, ruleOf}
+use Rattle.term.proofs.Table.{part-below, node-of, branch-of, leaf-of}
+use Rattle.submission.specs.Record.{kindOf, atomic, shapeOf}
+use Rattle.machine.specs.declared.Machine.{Machine}
+use Rattle.machine.specs.Code.{recordFor, nodeFor, nodeIn, nodeAt, termAt, SoundState}
+
+-- ---- nodes and records
+-- the record of a node of this head
+pub rule-record : (h : Head) (l r : ℕ) → recordFor (nodeFor (branch h l r)) ≡ branch h l r
+unfolding recordFor headOf
+rule-record pair l r = refl
+rule-record (part left) l r = refl
+rule-record (part right) l r = refl
+rule-record (encrypt symmetric) l r = refl
+rule-record (decrypt symmetric) l r = refl
+rule-record (encrypt asymmetric) l r = refl
+rule-record (decrypt asymmetric) l r = refl
+
+pub atom-record : (κ : Kind) (l r : ℕ) → recordFor (record { head = 128 + kindOf (atomic κ); left = l; right = r }) ≡ leaf κ l
+unfolding recordFor shapeOf
+atom-record plain l r = refl
+atom-record public l r = refl
+atom-record private l r = refl
+
+pub record-node : (r : Rec) → recordFor (nodeFor r) ≡ r
+record-node (leaf κ n) = atom-record κ n 0
+record-node (branch h x y) = rule-record h x y
+
+-- ---- the node of a term
+module _ {m : Machine} (w : SoundState m) {a : ℕ} (l : a < m .nodes) where
+  -- a compound term, by its node's head, and the other way round
+  compound-record : (h : Head) → nodeIn m a .head ≡ ruleOf h → nodeAt m a ≡ branch h (nodeIn m a .left) (nodeIn m a .right)
+  compound-record h e = ap (λ z. recordFor (record { head = z; left = nodeIn m a .left; right = nodeIn m a .right })) e ∙ rule-record h _ _
+
+  pub compound-below : (h : Head) → nodeIn m a .head ≡ ruleOf h → (nodeIn m a .left < m .nodes) × (nodeIn m a .right < m .nodes)
+  compound-below h e = part-below (w .table) a l (compound-record h e)
+
+  pub compound-term : (h : Head) → nodeIn m a .head ≡ ruleOf h → termAt m a ≡ node h (termAt m (nodeIn m a .left)) (termAt m (nodeIn m a .right))
+  compound-term h e = node-of (w .table) a l (compound-record h e)
+
+  record-in : {r : Rec} → nodeAt m a ≡ r → nodeIn m a ≡ nodeFor r
+  record-in e = sym (w .canonical a l) ∙ ap nodeFor e
+
+  pub compound-node : {h : Head} {x y : Term} → termAt m a ≡ node h x y →
+      (nodeIn m a .head ≡ ruleOf h) × (termAt m (nodeIn m a .left) ≡ x) × (termAt m (nodeIn m a .right) ≡ y)
+  compound-node {h} e =
+      let (u, v, r, f, g) = branch-of (w .table) a l e in
+      let q = record-in r in
+      (cc, cc, cc)
+
+  -- an atom
+  pub atom-term : (κ : Kind) → nodeIn m a .head ≡ 128 + kindOf (atomic κ) → termAt m a ≡ atom κ (nodeIn m a .left)
+  atom-term κ e =
+      w .table .reads a l ∙ ap (message (termAt m)) (ap (λ z. recordFor (record { head = z; left = nodeIn m a .left; right = nodeIn m a .right })) e ∙ atom-record κ _ _)
+
+  pub atom-node : {κ : Kind} {n : ℕ} → termAt m a ≡ atom κ n → (nodeIn m a .head ≡ 128 + kindOf (atomic κ)) × (nodeIn m a .left ≡ n)
+  atom-node e = let q = record-in (leaf-of (w .table) a l e) in (cc, cc)

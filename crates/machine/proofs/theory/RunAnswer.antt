@@ -1,0 +1,131 @@
+-- A run: the instructions of a program that passes check 13, its test, and the answer.
+use mathlib.Core.Path.{_≡_, refl, sym, ap, ap₂, _∙_}
+use mathlib.Core.Bool.{Bool, true, false, not, cond}
+use mathlib.Core.Option.{Option, none, some}
+use mathlib.Core.List.{List, [], _∷_, _++_}
+use Prim.Native.Nat.{ℕ, _+_, _≤_, _<_}
+use native.Mathlib.Numerals.{add-one}
+use native.Mathlib.Omega.{arith}
+use lib.Dec.{eqb, ltb}
+use lib.ListN.{length, getD}
+use borrow.Author.Tests.{ltb-true, ltb-false, ne-eqb}
+use Rattle.base.specs.First.{any}
+use Rattle.base.specs.Grow.{grow}
+use Rattle.base.proofs.Says.{says-true, says-ltb, says-and, says-any, denies, not-not-false, or-false}
+use Rattle.term.specs.Term.{asymmetric, test}
+use Rattle.term.specs.Reduce.{match?}
+use Rattle.term.specs.Rule.{rules, hasOne}
+use Rattle.base.specs.declared.Stage.{Stage}
+use Rattle.submission.specs.declared.Claim.{Claim}
+use Rattle.submission.specs.declared.Reading.{Reading}
+use Rattle.submission.specs.declared.Reading.the-variants.{Refused}
+use Rattle.submission.specs.declared.Reading.the-variants as reading
+use Rattle.submission.specs.Code.{readingCheck, ReadingIs}
+use Rattle.base.specs.Answer.{done, refused, passes, answered}
+use Rattle.base.specs.Bytes.{Bytes, byte}
+use Rattle.submission.specs.Record.{entries}
+use Rattle.submission.specs.Check.{checks1to5}
+use Rattle.base.specs.Code.{checkOf, answerOf}
+use Rattle.machine.specs.declared.Machine.{Machine}
+use Rattle.base.specs.declared.Answer.{Answer}
+use Rattle.program.specs.declared.Asked.{Asked}
+use Rattle.program.specs.declared.Asked.the-variants.{Equal, Inverse, Unknown}
+use Rattle.term.specs.Relation.{Relation, equal, inverse}
+use Rattle.program.specs.Tests.{relationOf}
+use Rattle.program.specs.Program.{Instruction, Test, instructionAt, testAt, badProgram}
+use Rattle.program.specs.Code.{relationIn}
+use Rattle.program.proofs.theory.Check13.{good, good-instruction, good-test}
+use Rattle.machine.specs.Run.{executed, registers, holds, signals, signal, runAnswer}
+use Rattle.machine.specs.Code.{termAt, register, values, Gives, Executable, SubmissionRead, Started, Running, Testable}
+use Rattle.machine.proofs.theory.InstructionResult.{value-at}
+use Rattle.machine.proofs.theory.KeyNodes.{one-term}
+use Rattle.machine.proofs.theory.StartState.{facts}
+
+-- ---- the instructions
+pub running-none : (P : List ℕ) {s : List ℕ} {name : ℕ} {m : Machine} → Started s name m → Running s name P 0 m
+unfolding registers grow
+running-none P w = record { holds = w .holds; used = omega (arith, w .used); few = omega (arith, w .few) }
+
+module _ {s P : List ℕ} {name i n : ℕ} {m : Machine} {x : Instruction} (w : SubmissionRead s) (g : badProgram s P ≡ false) (h : Running s name P i m) (l : i < n) (c : n ≡ byte P 0) (e : x ≡ instructionAt P i) where
+  pub instruction-executable : Executable m x
+  instruction-executable =
+      let z = good s P g in
+      let (r, a, b) = good-instruction _ _ (z .steps i (omega arith)) in
+      record {
+        sound = h .holds .sound;
+        rule = rw e r;
+        left = rw (e, h .used) a;
+        right = rw (e, h .used) b;
+        room = omega (arith, h .few, z .few);
+        space = omega (arith, h .used, z .few, facts w .read .entries-most);
+      }
+
+  pub running-more : {r : Machine} → Gives m (executed (values m) x) r → Running s name P (i + 1) r
+  unfolding registers grow
+  running-more d = record {
+    holds = record {
+      sound = d .holds .sound;
+      is = d .holds .is ∙ rw (add-one i) (ap₂ (λ vs j. vs ++ executed vs j ∷ []) (h .holds .is) e);
+    };
+    used = omega (arith, d .used, h .used);
+    few = omega (arith, d .few, h .few);
+  }
+
+pub running-all : {s P : List ℕ} {name i n : ℕ} {m : Machine} → Running s name P i m → i ≤ n → n ≤ i → n ≡ byte P 0 → Running s name P (byte P 0) m
+running-all {s} {P} {name} {i} {n} h a b c = let e : i ≡ byte P 0 = omega arith in rw (← e) h
+
+-- ---- the test
+module _ (P : List ℕ) {m : Machine} {u : Test} {p q : ℕ} (w : Testable m (testAt P)) (z : u ≡ testAt P) (e : p ≡ u .left) (f : q ≡ u .right) where
+  pub left-below : getD (m .registers) p 0 < m .nodes
+  left-below = rw (e, z) (w .sound .written _ (w .left))
+
+  pub right-below : getD (m .registers) q 0 < m .nodes
+  right-below = rw (f, z) (w .sound .written _ (w .right))
+
+  -- what the test's relation says of the two values
+  tested : {b : Bool} {r : ℕ} (o : Option Relation) → relationOf (u .letter) ≡ o → b ≡ holds o (termAt m (register m p)) (termAt m (register m q)) → r ≡ cond b 1 0 →
+      r ≡ cond (signals (values m) (testAt P)) 1 0
+  unfolding signals
+  tested {b} o j v k =
+      let t : signals (values m) (testAt P) ≡ b = cc (value-at m _ (w .left), value-at m _ (w .right)) in
+      k ∙ rw t
+
+  module _ {l : Asked} (j : relationIn l ≡ relationOf (u .letter)) where
+    pub signal-equal : {r : ℕ} → l ≡ Equal → r ≡ cond (eqb (getD (m .registers) p 0) (getD (m .registers) q 0)) 1 0 → r ≡ cond (signals (values m) (testAt P)) 1 0
+    signal-equal k = tested (some equal) (sym j ∙ ap relationIn k) (one-term (w .sound) left-below right-below)
+
+    pub signal-inverse : {b : Bool} {r : ℕ} → l ≡ Inverse → b ≡ test (match? asymmetric (termAt m (getD (m .registers) p 0)) (termAt m (getD (m .registers) q 0))) → r ≡ cond b 1 0 →
+        r ≡ cond (signals (values m) (testAt P)) 1 0
+    signal-inverse k v = tested (some inverse) (sym j ∙ ap relationIn k) v
+
+    pub signal-none : l ≡ Unknown → _≡_ {A = ℕ} 0 (cond (signals (values m) (testAt P)) 1 0)
+    signal-none k = tested none (sym j ∙ ap relationIn k) refl refl
+
+-- ---- the answer
+pub test-ready : (s P : List ℕ) {name : ℕ} {m : Machine} → badProgram s P ≡ false → Running s name P (byte P 0) m → Testable m (testAt P)
+test-ready s P g h =
+    let z = good s P g in
+    let (a, b) = good-test _ _ (z .test) in
+    record { sound = h .holds .sound; left = rw (h .used) a; right = rw (h .used) b; room = omega (arith, h .few, z .few) }
+
+module _ (s P : List ℕ) (name : ℕ) {rd : Reading} (e : ReadingIs s (checks1to5 s) rd) where
+  pub run-stopped : {m k : ℕ} (st : Stage) (r : Answer) → rd ≡ Refused m k → checkOf st ≡ readingCheck rd → answerOf r ≡ answered (checkOf st) (done 0) →
+      answerOf r ≡ runAnswer s name P
+  unfolding runAnswer
+  run-stopped st r p f h = h ∙ rw (f, ← (e .answer), p)
+
+  module _ {k : Claim} (p : rd ≡ reading.Good k) where
+    pub reading-passes : checks1to5 s ≡ passes
+    reading-passes = sym (e .answer) ∙ ap readingCheck p
+
+    pub read : Bytes s → SubmissionRead s
+    read b = record { bytes = b; passed = reading-passes }
+
+    module _ {b : Bool} (g : b ≡ badProgram s P) where
+      pub run-refused : b ≡ true → refused 13 0 ≡ runAnswer s name P
+      unfolding runAnswer
+      run-refused t = rw (reading-passes, ← g, t)
+
+      pub run-signals : {m : Machine} {r : ℕ} → b ≡ false → Running s name P (byte P 0) m → r ≡ cond (signals (values m) (testAt P)) 1 0 → done r ≡ runAnswer s name P
+      unfolding runAnswer signal
+      run-signals t h k = rw (reading-passes, ← g, t, k, h .holds .is)

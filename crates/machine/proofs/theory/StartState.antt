@@ -1,0 +1,200 @@
+-- The start of a run: the submission's terms as nodes, the knowledge and the guess in the first registers.
+use mathlib.Core.Path.{_≡_, refl, sym, ap, ap₂, _∙_, subst}
+use mathlib.Core.Bool.{false≢true}
+use mathlib.Core.List.{List, [], _∷_, _++_}
+use mathlib.Core.Option.{some}
+use Prim.Native.Nat.{ℕ, _+_, _*_, _≤_, _<_}
+use native.Mathlib.Numerals.{add-one}
+use native.Mathlib.Omega.{arith}
+use mir.Syntax.{w8}
+use mir.Val.{Fits}
+use lib.ListN.{length, getD, set, length-set, length-append}
+use borrow.Author.Count.{below-more}
+use Rattle.base.specs.Grow.{grow}
+use Rattle.base.proofs.Grow.{length-listed}
+use Rattle.term.specs.Term.{Kind, plain, public, private, symmetric, asymmetric, Head, pair, part, encrypt, decrypt, atom}
+use Rattle.term.specs.Table.{leaf, message, void, decoded, Table}
+use Rattle.term.specs.Rule.{ruleOf}
+use Rattle.submission.specs.declared.Term.{Term as TermRead}
+use Rattle.submission.specs.Record.{kindOf, terms, entries, entryAt, guess, kindAt, nameAt, Shape, atomic, compound, shapeOf, recordAt, term}
+use Rattle.submission.specs.Code.{IsTerm}
+use Rattle.submission.proofs.Shape.{shape-kind, Listable, kind-shape, Shaped}
+use Rattle.submission.proofs.Listed.{Claimed, claimed}
+use Rattle.machine.specs.declared.Node.{Node}
+use Rattle.machine.specs.declared.Machine.{Machine}
+use Rattle.machine.specs.declared.Interned.{Interned}
+use Rattle.machine.specs.Run.{atomKind, guessed, initial}
+use Rattle.machine.specs.Code.{recordFor, nodeFor, nodeIn, nodeAt, termAt, values, SoundState, Fit, Has, Stored, SubmissionRead, knowledge, Loaded, Started}
+use Rattle.machine.proofs.theory.NodeRecords.{atom-record, record-node}
+use Rattle.machine.proofs.theory.StateGrowth.{decoded-alike, withNode, Room, node-old, node-new}
+
+-- what holds of the terms, and of the claim, after checks 1 to 5
+pub facts : {s : List ℕ} → SubmissionRead s → Claimed s
+facts {s} w = claimed s (w .bytes) (w .passed)
+
+-- ---- the node of a record
+kind-fits : (κ : Kind) → Fits w8 (128 + kindOf (atomic κ))
+kind-fits plain = record { fits = omega arith }
+kind-fits public = record { fits = omega arith }
+kind-fits private = record { fits = omega arith }
+
+-- a record of no compound kind is an atom's
+atomic-shape : (s : List ℕ) (t : ℕ) (y : Shape) → Shaped s t y → (kindOf y ≡ 4 → ⊥) → (kindOf y ≡ 5 → ⊥) → (kindOf y ≡ 6 → ⊥) → (κ : Kind) × (y ≡ atomic κ)
+atomic-shape s t (atomic κ) f a b c = (κ, refl)
+atomic-shape s t (compound pair) f a b c = absurd (a refl)
+atomic-shape s t (compound (part i)) f a b c = absurd (false≢true (f .1 .1))
+atomic-shape s t (compound (encrypt symmetric)) f a b c = absurd (b refl)
+atomic-shape s t (compound (encrypt asymmetric)) f a b c = absurd (c refl)
+atomic-shape s t (compound (decrypt e)) f a b c = absurd (false≢true (f .1 .1))
+
+pub node-compound : (h : Head) → Listable (compound h) → {s : List ℕ} {t x y : ℕ} {z : TermRead} → IsTerm s t z → x ≡ z .x → y ≡ z .y → z .kind ≡ kindOf (compound h) →
+    record { head = ruleOf h; left = x; right = y } ≡ nodeFor (recordAt s t)
+unfolding recordAt
+node-compound h b {s} {t} e f g k =
+    let q : shapeOf (kindAt s t) ≡ some (compound h) = ap shapeOf (sym (e .kind) ∙ k) ∙ kind-shape (compound h) b in
+    rw (q, f, g, e .x, e .y)
+
+atomic-node : (s : List ℕ) (t : ℕ) (κ : Kind) → shapeOf (kindAt s t) ≡ some (atomic κ) → nodeFor (recordAt s t) ≡ record { head = 128 + kindOf (atomic κ); left = nameAt s t; right = 0 }
+unfolding recordAt
+atomic-node s t κ p = rw p
+
+module _ {s : List ℕ} {t : ℕ} {z : TermRead} (w : SubmissionRead s) (l : t < terms s) (e : IsTerm s t z) (a : z .kind ≡ 4 → ⊥) (b : z .kind ≡ 5 → ⊥) (c : z .kind ≡ 6 → ⊥) where
+  kind-of : (κ : Kind) × (shapeOf (kindAt s t) ≡ some (atomic κ)) × (z .kind ≡ kindOf (atomic κ))
+  kind-of =
+      let g = facts w .read .good t l in
+      let k : z .kind ≡ kindOf (g .shape) = e .kind ∙ shape-kind _ _ (g .has) in
+      let (κ, q) = atomic-shape s t (g .shape) (g .fits) (λ p. a (k ∙ p)) (λ p. b (k ∙ p)) (λ p. c (k ∙ p)) in
+      (κ, g .has ∙ ap some q, k ∙ ap kindOf q)
+
+  pub atom-kind-fits : Fits w8 (128 + z .kind)
+  atom-kind-fits = rw (kind-of .2) (kind-fits (kind-of .0))
+
+  pub node-atomic : {x y : ℕ} → x ≡ z .x → y ≡ z .y → record { head = 128 + z .kind; left = x * 256 + y; right = 0 } ≡ nodeFor (recordAt s t)
+  node-atomic f g =
+      let (κ, p, q) = kind-of in
+      let r = atomic-node s t κ p in
+      cc (e .x, e .y)
+
+-- ---- the terms
+-- the state m holds the first t terms in its arrays
+pub record Filled (s : List ℕ) (m : Machine) (t : ℕ) : Type 0 where
+  pub heads : length (m .heads) ≡ 384
+  pub lefts : length (m .lefts) ≡ 384
+  pub rights : length (m .rights) ≡ 384
+  pub nodes : (k : ℕ) → k < t → nodeIn m k ≡ nodeFor (recordAt s k)
+  pub used : m .used ≡ 0
+
+pub filled-none : (s : List ℕ) {m : Machine} → m .used ≡ 0 → length (m .heads) ≡ 384 → length (m .lefts) ≡ 384 → length (m .rights) ≡ 384 → Filled s m 0
+filled-none s u h l r = record { heads = h; lefts = l; rights = r; nodes = λ k b. absurd (omega arith); used = u }
+
+-- the state m with t nodes
+abbrev at : Machine → ℕ → Machine
+at m t = record { heads = m .heads; lefts = m .lefts; rights = m .rights; nodes = t; registers = m .registers; used = m .used }
+
+module _ {s : List ℕ} {m : Machine} {t : ℕ} (w : SubmissionRead s) (f : Filled s m t) where
+  pub filled-more : {k n : ℕ} {v : Node} → t < n → n ≡ terms s → k ≡ t → v ≡ nodeFor (recordAt s t) →
+      Filled s (record { heads = set (m .heads) k (v .head); lefts = set (m .lefts) k (v .left); rights = set (m .rights) k (v .right); nodes = m .nodes; registers = m .registers; used = m .used }) (t + 1)
+  filled-more {v = v} b c e g = rw e (record {
+    heads = simp length-set (f .heads);
+    lefts = simp length-set (f .lefts);
+    rights = simp length-set (f .rights);
+    nodes = below-more (λ k. nodeIn (withNode (at m t) v) k ≡ nodeFor (recordAt s k)) t (λ k l. node-old (at m t) v room k l ∙ f .nodes k l) (node-new (at m t) v room ∙ g);
+    used = f .used;
+  })
+    where
+      room : Room (at m t)
+      room = record { heads = omega (arith, f .heads, facts w .read .terms-most); lefts = omega (arith, f .lefts, facts w .read .terms-most); rights = omega (arith, f .rights, facts w .read .terms-most) }
+
+  module _ (l : terms s ≤ t) where
+    record-at : (k : ℕ) → k < terms s → nodeAt m k ≡ recordAt s k
+    record-at k b = ap recordFor (f .nodes k (omega arith)) ∙ record-node (recordAt s k)
+
+    same-terms : decoded (nodeAt m) (terms s) ≡ decoded (recordAt s) (terms s)
+    same-terms = decoded-alike (nodeAt m) (recordAt s) (terms s) record-at
+
+    terms-sound : SoundState (at m (terms s))
+    unfolding termAt term
+    terms-sound = record {
+      table = subst (λ ts. Table (nodeAt m) (terms s) (λ k. getD ts k void)) (sym same-terms) (record {
+        reads = λ k b. facts w .read .table .reads k b ∙ ap (message (term s)) (sym (record-at k b));
+        earlier = λ k b. rw (record-at k b) (facts w .read .table .earlier k b);
+        distinct = λ j k b c e. facts w .read .table .distinct j k b c (sym (record-at j b) ∙ e ∙ record-at k c);
+      });
+      canonical = λ k b. ap nodeFor (record-at k b) ∙ sym (f .nodes k (omega arith));
+      written = λ r b. absurd (omega (arith, f .used));
+    }
+
+    none-written : values (at m (terms s)) ≡ []
+    unfolding values grow
+    none-written = rw (f .used)
+
+    terms-held : (k : ℕ) → termAt (at m (terms s)) k ≡ term s k
+    unfolding termAt term
+    terms-held k = ap (λ ts. getD ts k void) same-terms
+
+  pub terms-loaded : {n N : ℕ} → n ≤ t → n ≡ terms s → N ≡ n → Loaded s [] (record { heads = m .heads; lefts = m .lefts; rights = m .rights; nodes = N; registers = m .registers; used = m .used })
+  terms-loaded b c e =
+      let l : terms s ≤ t = omega arith in
+      rw (e, c) (record { holds = record { sound = terms-sound l; is = none-written l }; used = f .used; nodes = refl; is = terms-held l })
+
+-- ---- the knowledge
+knowledge-length : (s : List ℕ) (n : ℕ) → length (knowledge s n) ≡ n
+knowledge-length s n = length-listed (λ i. term s (entryAt s i)) n
+
+pub knowledge-none : {s : List ℕ} {m : Machine} → Loaded s [] m → Loaded s (knowledge s 0) m
+unfolding grow
+knowledge-none w = w
+
+module _ {s : List ℕ} {m : Machine} {i n : ℕ} (w : SubmissionRead s) (h : Loaded s (knowledge s i) m) (l : i < n) (c : n ≡ entries s) where
+  pub entry-below : {a x : ℕ} → a ≡ entryAt s i → x ≡ a → x < m .nodes
+  entry-below e f = omega (arith, facts w .read .entry-below i (omega arith), h .nodes)
+
+  pub entry-space : m .used < 256
+  entry-space = omega (arith, h .used, knowledge-length s i, facts w .read .entries-most)
+
+  pub knowledge-more : {a x : ℕ} {r : Machine} → Stored m x r → a ≡ entryAt s i → x ≡ a → Loaded s (knowledge s (i + 1)) r
+  unfolding grow
+  knowledge-more z e f = rw (add-one i) (record {
+    holds = record { sound = z .holds .sound; is = z .holds .is ∙ ap₂ (λ vs t. vs ++ t ∷ []) (h .holds .is) (h .is _ ∙ ap (term s) (f ∙ e)) };
+    used = simp length-append (omega (arith, z .used, h .used));
+    nodes = z .nodes ∙ h .nodes;
+    is = λ k. z .terms k ∙ h .is k;
+  })
+
+pub knowledge-all : {s : List ℕ} {m : Machine} {i n : ℕ} → Loaded s (knowledge s i) m → i ≤ n → n ≤ i → n ≡ entries s → Loaded s (knowledge s (entries s)) m
+knowledge-all {s} {m} {i} {n} h a b c = let e : i ≡ entries s = omega arith in rw (← e) h
+
+-- ---- the guess
+module _ {s : List ℕ} {g : ℕ} {z : TermRead} (w : SubmissionRead s) (e : IsTerm s g z) (f : g ≡ guess s) where
+  guess-kind : z .kind ≡ kindOf (atomic (facts w .guess-kind))
+  guess-kind = e .kind ∙ ap (kindAt s) f ∙ shape-kind _ _ (facts w .guess-shape)
+
+  pub guess-fits : Fits w8 (128 + z .kind)
+  guess-fits = rw guess-kind (kind-fits (facts w .guess-kind))
+
+  module _ {m : Machine} (name : ℕ) (h : Loaded s (knowledge s (entries s)) m) where
+    guess-record : recordFor (record { head = 128 + z .kind; left = name; right = 0 }) ≡ leaf (facts w .guess-kind) name
+    guess-record = rw guess-kind (atom-record (facts w .guess-kind) name 0)
+
+    pub guess-fit : Fit m (record { head = 128 + z .kind; left = name; right = 0 })
+    guess-fit = record {
+      sound = h .holds .sound;
+      canonical = rw guess-record (rw guess-kind refl);
+      low = rw guess-record tt;
+      room = omega (arith, h .nodes, facts w .read .terms-most);
+    }
+
+    module _ {i : Interned} (d : Has m (record { head = 128 + z .kind; left = name; right = 0 }) i) where
+      pub guess-space : i .machine .used < 256
+      guess-space = omega (arith, d .used, h .used, knowledge-length s (entries s), facts w .read .entries-most)
+
+      pub guess-started : {r : Machine} → Stored (i .machine) (i .number) r → Started s name r
+      unfolding initial guessed
+      guess-started q = record {
+        holds = record {
+          sound = q .holds .sound;
+          is = q .holds .is ∙ ap₂ (λ vs t. vs ++ t ∷ []) (d .holds .is ∙ h .holds .is) (d .is ∙ ap (message (termAt m)) guess-record ∙ ap (λ o. atom (atomKind o) name) (sym (facts w .guess-shape)));
+        };
+        used = omega (arith, q .used, d .used, h .used, knowledge-length s (entries s));
+        few = omega (arith, q .nodes, d .few, h .nodes, facts w .read .terms-most);
+      }

@@ -1,0 +1,131 @@
+-- A state with one node or one register more: what it holds.
+use mathlib.Core.Path.{_≡_, refl, sym, ap, _∙_, subst}
+use mathlib.Core.Bool.{true, true≢false}
+use mathlib.Core.Option.{none}
+use mathlib.Core.List.{List, [], _∷_, _++_}
+use Prim.Native.Nat.{ℕ, _+_, _<_}
+use native.Mathlib.Nat.{zero-add}
+use native.Mathlib.Numerals.{add-one}
+use native.Mathlib.Omega.{arith}
+use lib.ListN.{length, getD, set, List·getD-append}
+use lib.Seq.{getD-set-same, getD-set-other, getD-at}
+use borrow.Author.Count.{below-more}
+use borrow.Author.Tests.{eq-eqb}
+use Rattle.base.specs.First.{first}
+use Rattle.base.proofs.First.{first-none}
+use Rattle.base.specs.Grow.{grow}
+use Rattle.base.proofs.Grow.{length-grow, grow-alike}
+use Rattle.term.specs.Table.{Rec, message, void, decoded, Table}
+use Rattle.term.proofs.Table.{extended}
+use Rattle.machine.specs.declared.Node.{Node}
+use Rattle.machine.specs.declared.Machine.{Machine}
+use Rattle.machine.specs.Code.{recordFor, nodeFor, nodeIn, nodeAt, termAt, register, values, SoundState, isNode, Fit, Has, Stored}
+
+-- ---- tables that are alike
+pub decoded-alike : (r r′ : ℕ → Rec) (n : ℕ) → ((i : ℕ) → i < n → r i ≡ r′ i) → decoded r n ≡ decoded r′ n
+unfolding decoded
+decoded-alike r r′ n h = grow-alike [] _ _ n (λ i l b. ap (message (λ m. getD l m void)) (h i b))
+
+length-decoded : (r : ℕ → Rec) (n : ℕ) → length (decoded r n) ≡ n
+unfolding decoded
+length-decoded r n = length-grow [] _ n ∙ zero-add n
+
+-- ---- one register more
+abbrev pub withRegister : Machine → ℕ → Machine
+withRegister m n = record { heads = m .heads; lefts = m .lefts; rights = m .rights; nodes = m .nodes; registers = set (m .registers) (m .used) n; used = m .used + 1 }
+
+module _ {m : Machine} {n : ℕ} (w : SoundState m) (l : n < m .nodes) (space : m .used < length (m .registers)) where
+  register-old : (r : ℕ) → r < m .used → register (withRegister m n) r ≡ register m r
+  register-old r b = getD-set-other (m .registers) (m .used) r n 0 (λ e. omega arith)
+
+  register-new : register (withRegister m n) (m .used) ≡ n
+  register-new = getD-set-same (m .registers) (m .used) n 0 space
+
+  register-sound : SoundState (withRegister m n)
+  unfolding termAt
+  register-sound = record {
+    table = w .table;
+    canonical = w .canonical;
+    written = below-more (λ r. register (withRegister m n) r < m .nodes) (m .used) (λ r b. rw (register-old r b) (w .written r b)) (rw register-new l);
+  }
+
+  register-values : values (withRegister m n) ≡ values m ++ termAt m n ∷ []
+  unfolding values grow termAt
+  register-values =
+      rw (
+        add-one (m .used),
+        register-new,
+        grow-alike [] (λ v r. termAt (withRegister m n) (register (withRegister m n) r)) (λ v r. termAt m (register m r)) (m .used)
+            (λ r v b. ap (termAt m) (register-old r b)),
+      )
+
+  register-terms : (k : ℕ) → termAt (withRegister m n) k ≡ termAt m k
+  unfolding termAt
+  register-terms k = refl
+
+  pub register-stored : {i : ℕ} → i ≡ m .used → Stored m n (record { heads = m .heads; lefts = m .lefts; rights = m .rights; nodes = m .nodes; registers = set (m .registers) i n; used = m .used + 1 })
+  register-stored e = rw e (record { holds = record { sound = register-sound; is = register-values }; used = refl; nodes = refl; terms = register-terms })
+
+-- ---- one node more
+abbrev pub withNode : Machine → Node → Machine
+withNode m v = record { heads = set (m .heads) (m .nodes) (v .head); lefts = set (m .lefts) (m .nodes) (v .left); rights = set (m .rights) (m .nodes) (v .right); nodes = m .nodes + 1; registers = m .registers; used = m .used }
+
+-- the state's arrays have room for a node
+pub record Room (m : Machine) : Type 0 where
+  pub heads : m .nodes < length (m .heads)
+  pub lefts : m .nodes < length (m .lefts)
+  pub rights : m .nodes < length (m .rights)
+
+module _ (m : Machine) (v : Node) (room : Room m) where
+  pub node-old : (k : ℕ) → k < m .nodes → nodeIn (withNode m v) k ≡ nodeIn m k
+  node-old k b =
+      let d : k ≡ m .nodes → ⊥ = λ e. omega arith in
+      rw (getD-set-other (m .heads) (m .nodes) k (v .head) 0 d, getD-set-other (m .lefts) (m .nodes) k (v .left) 0 d, getD-set-other (m .rights) (m .nodes) k (v .right) 0 d)
+
+  pub node-new : nodeIn (withNode m v) (m .nodes) ≡ v
+  node-new =
+      rw (getD-set-same (m .heads) (m .nodes) (v .head) 0 (room .heads), getD-set-same (m .lefts) (m .nodes) (v .left) 0 (room .lefts), getD-set-same (m .rights) (m .nodes) (v .right) 0 (room .rights))
+
+  terms : decoded (nodeAt (withNode m v)) (m .nodes + 1) ≡ decoded (nodeAt m) (m .nodes) ++ message (termAt m) (recordFor v) ∷ []
+  unfolding decoded grow termAt
+  terms =
+      rw (add-one (m .nodes), node-new)
+      (ap (λ ts. ts ++ message (λ k. getD ts k void) (recordFor v) ∷ [])
+      (decoded-alike (nodeAt (withNode m v)) (nodeAt m) (m .nodes) (λ k b. ap recordFor (node-old k b))))
+
+  term-old : (k : ℕ) → k < m .nodes → termAt (withNode m v) k ≡ termAt m k
+  unfolding termAt
+  term-old k b = rw terms (List·getD-append (decoded (nodeAt m) (m .nodes)) _ void k (rw (length-decoded (nodeAt m) (m .nodes)) b))
+
+  term-new : termAt (withNode m v) (m .nodes) ≡ message (termAt m) (recordFor v)
+  unfolding termAt
+  term-new = rw terms (getD-at (decoded (nodeAt m) (m .nodes)) _ [] void (m .nodes) (length-decoded (nodeAt m) (m .nodes)))
+
+  module _ (f : Fit m v) (new : first (isNode m v) (m .nodes) ≡ none) where
+    not-there : (k : ℕ) → k < m .nodes → nodeAt m k ≡ recordFor v → ⊥
+    not-there k b e =
+        let q : nodeIn m k ≡ v = sym (f .sound .canonical k b) ∙ ap nodeFor e ∙ f .canonical in
+        let t : isNode m v k ≡ true = rw (eq-eqb _ _ (ap (λ z. z .head) q), eq-eqb _ _ (ap (λ z. z .left) q), eq-eqb _ _ (ap (λ z. z .right) q)) in
+        true≢false (sym t ∙ first-none (isNode m v) (m .nodes) new k b)
+
+    node-sound : SoundState (withNode m v)
+    node-sound = record {
+      table = subst (λ n. Table (nodeAt (withNode m v)) n (termAt (withNode m v))) (sym (add-one (m .nodes)))
+          (extended (f .sound .table) (recordFor v) (f .low) not-there (nodeAt (withNode m v)) (termAt (withNode m v)) (λ k b. ap recordFor (node-old k b)) term-old
+          (ap recordFor node-new) term-new);
+      canonical = below-more (λ k. nodeFor (nodeAt (withNode m v) k) ≡ nodeIn (withNode m v) k) (m .nodes) (λ k b. rw (node-old k b) (f .sound .canonical k b)) (rw node-new (f .canonical));
+      written = λ r b. omega (arith, f .sound .written r b);
+    }
+
+    node-values : values (withNode m v) ≡ values m
+    unfolding values
+    node-values = grow-alike [] _ _ (m .used) (λ r l b. term-old (register m r) (f .sound .written r b))
+
+    pub node-added : Has m v (record { machine = withNode m v; number = m .nodes })
+    node-added = record {
+      holds = record { sound = node-sound; is = node-values };
+      used = refl;
+      below = omega arith;
+      is = term-new;
+      few = omega arith;
+    }

@@ -1,0 +1,3 @@
+pub mod Code
+pub mod Program
+pub mod Tests

@@ -1,0 +1,59 @@
+-- The ways of a claim, in one table: document 01, 'The submission', conditions 4 and 5, the test of 'The register program', and row 5 of 'Verdicts'.
+-- What condition 4 asks in each way is in the crate `conditions`.
+use mathlib.Core.Bool.{Bool, true, false, _&&_, cond}
+use mathlib.Core.List.{List}
+use mathlib.Core.Option.{Option, none, some}
+use Prim.Native.Nat.{ℕ}
+use lib.Dec.{eqb, ltb}
+use Rattle.term.specs.Relation.{Relation, equal, inverse}
+use Rattle.submission.specs.Record.{terms, steps, verifying, companion}
+
+-- way a: another step concludes the same term; way b: it is known at the start; way c: its inverse key is known
+pub data Way : Type 0 where
+  another-step at-start inverse-key : Way
+
+-- "way (letter a, b or c)"
+unfoldable pub wayOf : ℕ → Option Way
+wayOf l =
+    cond (eqb l 0x61) (some another-step)
+    (cond (eqb l 0x62) (some at-start)
+    (cond (eqb l 0x63) (some inverse-key)
+    none))
+
+-- what a number of the claim may be: a step's, a term's, or 0 only
+pub data Range : Type 0 where
+  step-number term-number zero-only : Range
+
+-- a register that the test names: of the verifying step or of the companion step, or the lowest that holds v or the companion
+pub data Operand : Type 0 where
+  verifying-result companion-result lowest-conclusion lowest-companion : Operand
+
+pub record Row : Type 0 where
+  -- "step or companion out of range (a: N, c: T, b: not 0)"
+  pub step : Range
+  pub companion : Range
+  -- condition 5: "nor in way a by the companion"
+  pub companionKept : Bool
+  -- "The test names the verifying step's register first, then: way a, the companion step's; b, the lowest register holding v;
+  -- c, the lowest holding the inverse, with `i`."
+  pub relation : Relation
+  pub tested : Operand
+  pub against : Operand
+
+abbrev pub row : Way → Row
+row another-step =
+    record { step = step-number; companion = step-number; companionKept = true; relation = equal; tested = verifying-result; against = companion-result }
+row at-start =
+    record { step = step-number; companion = zero-only; companionKept = false; relation = equal; tested = verifying-result; against = lowest-conclusion }
+row inverse-key =
+    record { step = step-number; companion = term-number; companionKept = false; relation = inverse; tested = verifying-result; against = lowest-companion }
+
+abbrev pub inRange : List ℕ → Range → ℕ → Bool
+inRange s step-number n = ltb n (steps s)
+inRange s term-number n = ltb n (terms s)
+inRange s zero-only n = eqb n 0
+
+-- the step and the companion are in range for the way, and the way is one
+abbrev pub claimFits : List ℕ → Option Way → Bool
+claimFits s none = false
+claimFits s (some w) = inRange s (row w .step) (verifying s) && inRange s (row w .companion) (companion s)
