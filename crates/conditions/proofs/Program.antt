@@ -17,7 +17,7 @@ use Rattle.term.specs.Table.{void}
 use Rattle.term.specs.Reduce.{op}
 use Rattle.term.specs.Rule.{headOf, hasOne}
 use Rattle.submission.specs.Record.{entries, steps, entryAt, ruleAt, pAt, qAt, guess, term}
-use Rattle.derivation.specs.Register.{registerTerm, written, isKnown}
+use Rattle.derivation.specs.Register.{registerTerm, written, holdsTerm, every, isKnown}
 use Rattle.derivation.specs.Step.{secondAt}
 use Rattle.derivation.proofs.Register.{entry-register, guess-register, result-register}
 use Rattle.program.specs.Program.{bytesOf, programLength, instructionAt, operand}
@@ -33,13 +33,13 @@ module _ (s : List ℕ) where
   pub lowest-holds : (t r : ℕ) → r < written s (steps s) → registerTerm s r ≡ t → (registerTerm s (lowest s t) ≡ t) × (lowest s t ≤ r)
   unfolding lowest
   lowest-holds t r l e =
-      let (k, f, b, h) = first-found (λ r. eqb (registerTerm s r) t) (written s (steps s)) r l (eq-eqb (registerTerm s r) t e) in
+      let (k, f, b, h) = first-found (holdsTerm every s t) (written s (steps s)) r l (eq-eqb (registerTerm s r) t e) in
       rw f (eqb-true (registerTerm s k) t h, b)
 
   -- a known term is held by a register that is written; at the start these are the knowledge's and the guess's
   pub lowest-known : (i t : ℕ) → i ≤ steps s → isKnown s i t ≡ true → (registerTerm s (lowest s t) ≡ t) × (lowest s t < written s i)
   lowest-known i t b e =
-      let (r, l, h) = says-any {P = λ r. registerTerm s r ≡ t} (λ r. eqb (registerTerm s r) t) (written s i) (λ r l. says-eqb _ _) .0 e in
+      let (r, l, h) = says-any {P = λ r. registerTerm s r ≡ t} (holdsTerm every s t) (written s i) (λ r l. says-eqb _ _) .0 e in
       let (f, k) = lowest-holds t r (omega arith) h in
       (f, omega arith)
 

@@ -19,7 +19,7 @@ use Rattle.term.specs.Code.{relationIs}
 use Rattle.program.specs.Tests.{rowOf}
 use Rattle.derivation.specs.declared.Step.{Step}
 use Rattle.derivation.specs.declared.Registers.{Registers}
-use Rattle.derivation.specs.Register.{written, isKnown}
+use Rattle.derivation.specs.Register.{written, every, isKnown}
 use Rattle.derivation.specs.Step.{secondAt, unfounded}
 use Rattle.derivation.specs.Code.{IsStep, Registered}
 use Rattle.derivation.proofs.Founded.{steps-pass}
@@ -39,7 +39,7 @@ use Rattle.conditions.proofs.Program.{program-steps}
 module _ {s : List ℕ} {g : Registers} (h : Acceptable s) (w : Registered s (written s (steps s)) g) where
   known-register : (i t : ℕ) → i ≤ steps s → t < 256 → isKnown s i t ≡ true → getD (g .first) t 0 ≡ lowest s t
   unfolding lowest
-  known-register i t l b k = sym (ap orZero (known-held s i t l k w b))
+  known-register i t l b k = sym (ap orZero (known-held every s i t l k w b))
 
   -- the instruction of step i
   module _ {i : ℕ} {a : Step} (x : IsStep s i a) (l : i < steps s) {b : Bool} {f : ℕ} (e : f ≡ getD (g .first) (a .p) 0) (q : b ≡ hasOne (a .rule)) where
@@ -69,7 +69,7 @@ module _ {s : List ℕ} (h : Acceptable s) where
   one-of-steps i l = omega (arith, acceptable-limited h .steps)
 
   known-later : (t : ℕ) → isKnown s 0 t ≡ true → isKnown s (steps s) t ≡ true
-  known-later t k = known-stays s 0 (steps s) t (omega arith) k
+  known-later t k = known-stays every s 0 (steps s) t (omega arith) k
 
   tested-held : (w : Way) → wayOf (wayAt s) ≡ some w → Held s (row w .tested) × Held s (row w .against)
   tested-held another-step e =

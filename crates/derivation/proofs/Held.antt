@@ -12,6 +12,7 @@ use lib.Seq.{getD-set-same, getD-set-other}
 use borrow.Author.Tests.{eq-eqb, ne-eqb, eqb-true, eqb-false}
 use Rattle.base.specs.First.{firstFrom, first, isSome, any}
 use Rattle.base.proofs.First.{first-some}
+use Rattle.base.proofs.Bools.{and-both, and-right}
 use Rattle.base.proofs.FirstMore.{first-kept, first-next, first-same}
 use Rattle.base.proofs.Order.{lt-or-ge}
 use Rattle.submission.specs.declared.ClaimBytes.{ClaimBytes}
@@ -20,8 +21,8 @@ use Rattle.submission.specs.Record.{entries, steps, entryAt}
 use Rattle.submission.specs.Code.{IsClaimBytes}
 use Rattle.derivation.specs.declared.Step.{Step}
 use Rattle.derivation.specs.declared.Registers.{Registers}
-use Rattle.derivation.specs.Register.{registerTerm, written, lowestOf}
-use Rattle.derivation.specs.Code.{IsStep, orNone, Registered, Unused, Added}
+use Rattle.derivation.specs.Register.{registerTerm, written, holdsTerm, lowestAmong, every}
+use Rattle.derivation.specs.Code.{IsStep, orNone, RegisteredAmong, Registered, Unused, Added}
 use Rattle.derivation.proofs.Register.{entry-register, guess-register, result-register}
 
 -- ---- one call of `with`
@@ -32,38 +33,38 @@ pub added-stored : {b : Registers} {i t : ℕ} → i ≡ t → getD (b .first) i
 added-stored e f = record { used = refl; first = rw (← e, eq-eqb _ _ f) }
 
 -- ---- what a look tells
-module _ {s : List ℕ} {n : ℕ} {r : Registers} (h : Registered s n r) (t : ℕ) (l : t < 256) where
-  pub held-lowest : (q : ℕ) → lowestOf s n t ≡ some q → getD (r .first) t 0 ≡ q
+module _ {counts : ℕ → Bool} {s : List ℕ} {n : ℕ} {r : Registers} (h : RegisteredAmong counts s n r) (t : ℕ) (l : t < 256) where
+  pub held-lowest : (q : ℕ) → lowestAmong counts s n t ≡ some q → getD (r .first) t 0 ≡ q
   held-lowest q e = h .first t l ∙ ap orNone e
 
-  pub held-none : n ≤ 255 → getD (r .first) t 0 ≡ 255 → lowestOf s n t ≡ none
-  held-none b f = go (lowestOf s n t) refl
+  pub held-none : n ≤ 255 → getD (r .first) t 0 ≡ 255 → lowestAmong counts s n t ≡ none
+  held-none b f = go (lowestAmong counts s n t) refl
     where
-      go : (o : Option ℕ) → lowestOf s n t ≡ o → o ≡ none
+      go : (o : Option ℕ) → lowestAmong counts s n t ≡ o → o ≡ none
       go none e = refl
       go (some q) e =
-          let w = first-some (λ k. eqb (registerTerm s k) t) n q e in
+          let w = first-some (holdsTerm counts s t) n q e in
           let z : q ≡ 255 = sym (held-lowest q e) ∙ f in
           absurd (omega arith)
 
-  pub held-some : (getD (r .first) t 0 ≡ 255 → ⊥) → (q : ℕ) × (lowestOf s n t ≡ some q)
-  held-some d = go (lowestOf s n t) refl
+  pub held-some : (getD (r .first) t 0 ≡ 255 → ⊥) → (q : ℕ) × (lowestAmong counts s n t ≡ some q)
+  held-some d = go (lowestAmong counts s n t) refl
     where
-      go : (o : Option ℕ) → lowestOf s n t ≡ o → (q : ℕ) × (lowestOf s n t ≡ some q)
+      go : (o : Option ℕ) → lowestAmong counts s n t ≡ o → (q : ℕ) × (lowestAmong counts s n t ≡ some q)
       go none e = absurd (d (h .first t l ∙ ap orNone e))
       go (some q) e = (q, e)
 
   -- whether the term is in one of them at all
-  pub held-any : r .used < 256 → any (λ k. eqb (registerTerm s k) t) n ≡ not (eqb (getD (r .first) t 0) 255)
+  pub held-any : r .used < 256 → any (holdsTerm counts s t) n ≡ not (eqb (getD (r .first) t 0) 255)
   unfolding any
   held-any b = go (eqb (getD (r .first) t 0) 255) refl
     where
-      go : (d : Bool) → eqb (getD (r .first) t 0) 255 ≡ d → any (λ k. eqb (registerTerm s k) t) n ≡ not d
+      go : (d : Bool) → eqb (getD (r .first) t 0) 255 ≡ d → any (holdsTerm counts s t) n ≡ not d
       go true e = ap isSome (held-none (omega (arith, h .used)) (eqb-true _ 255 e))
       go false e = let (q, f) = held-some (eqb-false _ 255 e) in ap isSome f
 
 -- ---- the first n registers, from none on
-pub registered-none : {s : List ℕ} {r : Registers} → Unused r → Registered s 0 r
+pub registered-none : {counts : ℕ → Bool} {s : List ℕ} {r : Registers} → Unused r → RegisteredAmong counts s 0 r
 unfolding first firstFrom
 registered-none u = record { used = u .used; first = u .first }
 
@@ -77,43 +78,43 @@ other-place : (d : Bool) (f : List ℕ) (t v u : ℕ) → (u ≡ t → ⊥) → 
 other-place true f t v u x = getD-set-other f t u v 0 x
 other-place false f t v u x = refl
 
--- the next register holds document 01's term
-module _ {s : List ℕ} {n t : ℕ} {r r′ : Registers} (b : n < 255) (h : Registered s n r) (e : t ≡ registerTerm s n) (a : Added r t r′) where
-  at-term : t < 256 → (d : Bool) → eqb (getD (r .first) t 0) 255 ≡ d → getD (r′ .first) t 0 ≡ orNone (lowestOf s (n + 1) t)
+-- the next register counts, and holds document 01's term
+module _ {counts : ℕ → Bool} {s : List ℕ} {n t : ℕ} {r r′ : Registers} (b : n < 255) (h : RegisteredAmong counts s n r) (z : counts n ≡ true) (e : t ≡ registerTerm s n) (a : Added r t r′) where
+  at-term : t < 256 → (d : Bool) → eqb (getD (r .first) t 0) 255 ≡ d → getD (r′ .first) t 0 ≡ orNone (lowestAmong counts s (n + 1) t)
   at-term l true y =
       let f : getD (r .first) t 0 ≡ 255 = eqb-true _ 255 y in
-      let w : lowestOf s (n + 1) t ≡ some n = first-next _ n (held-none h t l (omega arith) f) (eq-eqb _ _ (sym e)) in
+      let w : lowestAmong counts s (n + 1) t ≡ some n = first-next _ n (held-none h t l (omega arith) f) (and-both _ _ z (eq-eqb _ _ (sym e))) in
       rw (a .first, y, w, getD-set-same (r .first) t (r .used) 0 (in-range (r .first) t f)) (h .used)
   at-term l false y =
       let (q, f) = held-some h t l (eqb-false _ 255 y) in
-      let w : lowestOf s (n + 1) t ≡ some q = first-kept _ n (n + 1) q (omega arith) f in
+      let w : lowestAmong counts s (n + 1) t ≡ some q = first-kept _ n (n + 1) q (omega arith) f in
       rw (a .first, y, w) (held-lowest h t l q f)
 
-  elsewhere : (u : ℕ) → u < 256 → eqb t u ≡ false → getD (r′ .first) u 0 ≡ orNone (lowestOf s (n + 1) u)
+  elsewhere : (u : ℕ) → u < 256 → eqb t u ≡ false → getD (r′ .first) u 0 ≡ orNone (lowestAmong counts s (n + 1) u)
   elsewhere u l x =
-      let w : lowestOf s (n + 1) u ≡ lowestOf s n u = first-same _ n (rw e at x) in
+      let w : lowestAmong counts s (n + 1) u ≡ lowestAmong counts s n u = first-same _ n (and-right (counts n) _ (rw e at x)) in
       rw (a .first, w) (other-place (eqb (getD (r .first) t 0) 255) (r .first) t (r .used) u (λ q. eqb-false t u x (sym q)) ∙ h .first u l)
 
-  pub registered-more : Registered s (n + 1) r′
+  pub registered-more : RegisteredAmong counts s (n + 1) r′
   registered-more = record { used = a .used ∙ ap (λ k. k + 1) (h .used); first = λ u l. go u l (eqb t u) refl }
     where
-      go : (u : ℕ) → u < 256 → (c : Bool) → eqb t u ≡ c → getD (r′ .first) u 0 ≡ orNone (lowestOf s (n + 1) u)
+      go : (u : ℕ) → u < 256 → (c : Bool) → eqb t u ≡ c → getD (r′ .first) u 0 ≡ orNone (lowestAmong counts s (n + 1) u)
       go u l true x =
           let q : t ≡ u = eqb-true t u x in
-          subst (λ k. getD (r′ .first) k 0 ≡ orNone (lowestOf s (n + 1) k)) q (at-term (omega arith) (eqb (getD (r .first) t 0) 255) refl)
+          subst (λ k. getD (r′ .first) k 0 ≡ orNone (lowestAmong counts s (n + 1) k)) q (at-term (omega arith) (eqb (getD (r .first) t 0) 255) refl)
       go u l false x = elsewhere u l x
 
 -- ---- the registers in the order in which they are written: the knowledge, the guess, the results of the steps
 module _ {s : List ℕ} {r r′ : Registers} (k : Limited s) {n i : ℕ} where
   pub entry-written : {t : ℕ} → n ≡ entries s → i < n → Registered s i r → t ≡ entryAt s i → Added r t r′ → Registered s (i + 1) r′
-  entry-written e l h x a = registered-more (omega arith) h (x ∙ sym (entry-register s i (omega arith))) a
+  entry-written e l h x a = registered-more (omega arith) h refl (x ∙ sym (entry-register s i (omega arith))) a
 
   pub guess-written : {c : ClaimBytes} → n ≡ entries s → i ≤ n → n ≤ i → Registered s i r → IsClaimBytes s c → Added r (c .guess) r′ → Registered s (entries s + 1) r′
   guess-written e l m h x a =
       let z : i ≡ entries s = omega arith in
-      registered-more (omega arith) (rw z at h) (x .guessed ∙ sym (guess-register s)) a
+      registered-more (omega arith) (rw z at h) refl (x .guessed ∙ sym (guess-register s)) a
 
   pub result-written : {st : Step} → n ≡ steps s → i < n → Registered s (written s i) r → IsStep s i st → Added r (st .conclusion) r′ → Registered s (written s (i + 1)) r′
   result-written e l h x a =
       let z : written s i + 1 ≡ written s (i + 1) = omega arith in
-      rw z at (registered-more (omega arith) h (x .conclusion ∙ sym (result-register s i)) a)
+      rw z at (registered-more (omega arith) h refl (x .conclusion ∙ sym (result-register s i)) a)

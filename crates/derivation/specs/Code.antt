@@ -1,6 +1,6 @@
 -- What the code's records mean in document 01's terms.
 use mathlib.Core.Path.{_≡_}
-use mathlib.Core.Bool.{cond}
+use mathlib.Core.Bool.{Bool, cond}
 use mathlib.Core.List.{List}
 use mathlib.Core.Option.{Option, none, some}
 use Prim.Native.Nat.{ℕ, _+_, _<_}
@@ -13,7 +13,7 @@ use Rattle.base.specs.declared.Stage.the-variants.{Passed}
 use Rattle.derivation.specs.declared.Step.{Step}
 use Rattle.derivation.specs.declared.Registers.{Registers}
 use Rattle.derivation.specs.declared.Checked.{Checked}
-use Rattle.derivation.specs.Register.{written, lowestOf}
+use Rattle.derivation.specs.Register.{written, lowestAmong, every}
 use Rattle.derivation.specs.Step.{badStep, unfounded, checkSteps}
 
 -- r holds step i
@@ -28,10 +28,13 @@ abbrev pub orNone : Option ℕ → ℕ
 orNone none = 255
 orNone (some q) = q
 
--- r is the first n registers: how many they are, and the lowest that holds each term
-pub record Registered (s : List ℕ) (n : ℕ) (r : Registers) : Type 0 where
+-- r is the first n registers: how many they are, and the lowest of those that count that holds each term
+pub record RegisteredAmong (counts : ℕ → Bool) (s : List ℕ) (n : ℕ) (r : Registers) : Type 0 where
   pub used : r .used ≡ n
-  pub first : (t : ℕ) → t < 256 → getD (r .first) t 0 ≡ orNone (lowestOf s n t)
+  pub first : (t : ℕ) → t < 256 → getD (r .first) t 0 ≡ orNone (lowestAmong counts s n t)
+
+abbrev pub Registered : List ℕ → ℕ → Registers → Type 0
+Registered s n r = RegisteredAmong every s n r
 
 -- no register is in use
 pub record Unused (r : Registers) : Type 0 where
