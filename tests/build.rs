@@ -1,15 +1,18 @@
-//! Links the checker's static library, for the binaries that compare with it.
+//! Links the checker's static library, for the binaries that call it: the repository's own, or the
+//! one in the folder that CHECKER_LIBRARY names.
 
 use std::env;
-use std::path::Path;
+use std::path::{Path, PathBuf};
 
 fn main() {
     println!("cargo:rerun-if-changed=build.rs");
+    println!("cargo:rerun-if-env-changed=CHECKER_LIBRARY");
     if env::var_os("CARGO_FEATURE_LINKED").is_none() {
         return;
     }
     let package = env::var("CARGO_MANIFEST_DIR").expect("cargo sets the package's folder");
-    let folder = Path::new(&package).join("../target/staticlib");
+    let own = Path::new(&package).join("../target/staticlib");
+    let folder = env::var_os("CHECKER_LIBRARY").map_or(own, PathBuf::from);
     println!("cargo:rerun-if-changed={}", folder.join("libchecker.a").display());
     println!("cargo:rustc-link-search=native={}", folder.display());
     println!("cargo:rustc-link-lib=static=checker");

@@ -1,5 +1,5 @@
 //! Tests of the checker from outside: an independent reference, a generator of submissions and
-//! programs, and a readable notation for submissions.
+//! programs, and a readable notation for submissions, all of them over the same tables.
 
 pub mod bodies;
 pub mod examples;
@@ -8,3 +8,4 @@ pub mod generate;
 pub mod library;
 pub mod notation;
 pub mod reference;
+pub mod tables;

@@ -2,34 +2,39 @@
 //! step from the knowledge, over all terms up to a size, listed or not.
 
 use std::collections::HashSet;
-use std::rc::Rc;
 
 use checker_tests::bodies::Bodies;
 use checker_tests::generate::Source;
 use checker_tests::reference::deducible;
+use checker_tests::tables::{Kind, Opener, Rule};
 
 /// The largest terms that are built, by the number of atoms and compounds in them.
 const LARGEST: usize = 5;
 
 #[derive(Clone, PartialEq, Eq, Hash)]
 enum Term {
-    Atom(u8, [u8; 2]),
-    Compound(u8, Rc<Term>, Rc<Term>),
+    Atom(Kind, [u8; 2]),
+    Compound(Kind, Vec<Term>),
 }
 
 impl Term {
     fn size(&self) -> usize {
         match self {
             Term::Atom(..) => 1,
-            Term::Compound(_, x, y) => 1 + x.size() + y.size(),
+            Term::Compound(_, operands) => 1 + operands.iter().map(Term::size).sum::<usize>(),
+        }
+    }
+
+    fn kind(&self) -> Kind {
+        match *self {
+            Term::Atom(kind, _) | Term::Compound(kind, _) => kind,
         }
     }
 
     fn inverse(&self) -> Option<Term> {
         match *self {
-            Term::Atom(2, name) => Some(Term::Atom(3, name)),
-            Term::Atom(3, name) => Some(Term::Atom(2, name)),
-            _ => None,
+            Term::Atom(kind, name) => Some(Term::Atom(kind.inverse()?, name)),
+            Term::Compound(..) => None,
         }
     }
 }
@@ -37,12 +42,14 @@ impl Term {
 fn listed(bodies: &Bodies) -> Vec<Term> {
     let mut terms: Vec<Term> = Vec::new();
     for &[kind, x, y] in &bodies.terms {
-        let part = |number: u8| Rc::new(terms[usize::from(number)].clone());
-        let term = match kind {
-            1..=3 => Term::Atom(kind, [x, y]),
-            _ => Term::Compound(kind, part(x), part(y)),
-        };
-        terms.push(term);
+        let kind = Kind::from_number(kind).expect("check 3 leaves kinds");
+        let part = |&number: &u8| terms[usize::from(number)].clone();
+        terms.push(match kind.rule() {
+            None => Term::Atom(kind, [x, y]),
+            Some(rule) => {
+                Term::Compound(kind, [x, y][..rule.operands()].iter().map(part).collect())
+            }
+        });
     }
     terms
 }
@@ -53,7 +60,7 @@ fn reached(knowledge: impl Iterator<Item = Term>) -> HashSet<Term> {
     loop {
         let mut more: HashSet<Term> = known.iter().flat_map(|term| taken(term, &known)).collect();
         for x in &known {
-            for y in known.iter().filter(|y| x.size() + y.size() < LARGEST) {
+            for y in &known {
                 more.extend(built(x, y));
             }
         }
@@ -65,24 +72,37 @@ fn reached(knowledge: impl Iterator<Item = Term>) -> HashSet<Term> {
     }
 }
 
+/// What the rules take out of the term with what is known.
 fn taken(term: &Term, known: &HashSet<Term>) -> Vec<Term> {
-    match term {
-        Term::Compound(4, x, y) => vec![Term::clone(x), Term::clone(y)],
-        Term::Compound(5, x, key) if known.contains(&**key) => vec![Term::clone(x)],
-        Term::Compound(6, x, key) if key.inverse().is_some_and(|key| known.contains(&key)) => {
-            vec![Term::clone(x)]
+    let Term::Compound(kind, operands) = term else {
+        return vec![];
+    };
+    let mut parts = Vec::new();
+    for (_, taking) in Rule::takings().filter(|(_, taking)| kind.rule() == Some(taking.from)) {
+        let opens = match taking.opener {
+            Opener::Nothing => true,
+            Opener::Key => known.contains(&operands[1]),
+            Opener::InverseKey => operands[1].inverse().is_some_and(|key| known.contains(&key)),
+        };
+        if opens {
+            parts.push(operands[taking.part].clone());
         }
-        _ => vec![],
     }
+    parts
 }
 
+/// What the rules build from the first of the terms, or from both, up to the size.
 fn built(x: &Term, y: &Term) -> Vec<Term> {
-    let compound = |kind| Term::Compound(kind, Rc::new(x.clone()), Rc::new(y.clone()));
-    match y {
-        Term::Atom(1, _) => vec![compound(4), compound(5)],
-        Term::Atom(..) => vec![compound(4), compound(6)],
-        Term::Compound(..) => vec![compound(4)],
+    let mut terms = Vec::new();
+    for (kind, rule) in Kind::compounds() {
+        let operands = &[x, y][..rule.operands()];
+        let size = 1 + operands.iter().map(|operand| operand.size()).sum::<usize>();
+        let is_keyed = kind.keys().is_empty() || kind.keys().contains(&y.kind());
+        if size <= LARGEST && is_keyed {
+            terms.push(Term::Compound(kind, operands.iter().map(|&term| term.clone()).collect()));
+        }
     }
+    terms
 }
 
 /// The bodies and terms of a submission that passes checks 1 to 4 and has few and small terms.

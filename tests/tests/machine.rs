@@ -1,7 +1,8 @@
 //! The reference's machine: each reduction, each test, and terms that are huge as trees.
 
 use checker_tests::notation::assemble;
-use checker_tests::reference::{run, Rule};
+use checker_tests::reference::run;
+use checker_tests::tables::{Rule, Test, MOST_INSTRUCTIONS};
 
 /// Registers r0 to r4 hold x, k, the two keys named a, and the pair of x and k; r5 the guess.
 const SUBMISSION: &str = "
@@ -35,12 +36,12 @@ const GUESS: u8 = 5;
 const FIRST: u8 = 6;
 
 /// The signal of these instructions and this test.
-fn signal(instructions: &[(Rule, u8, u8)], test: u8, tested: [u8; 2]) -> bool {
+fn signal(instructions: &[(Rule, u8, u8)], test: Test, tested: [u8; 2]) -> bool {
     let mut program = vec![instructions.len() as u8];
     for &(rule, first, second) in instructions {
         program.extend([rule.number(), first, second]);
     }
-    program.push(test);
+    program.push(test.letter());
     program.extend(tested);
     run(&assemble(SUBMISSION).unwrap(), 7, &program).unwrap()
 }
@@ -48,7 +49,7 @@ fn signal(instructions: &[(Rule, u8, u8)], test: u8, tested: [u8; 2]) -> bool {
 /// Whether the last result equals the register.
 fn results_in(instructions: &[(Rule, u8, u8)], register: u8) -> bool {
     let last = FIRST + instructions.len() as u8 - 1;
-    signal(instructions, b'=', [last, register])
+    signal(instructions, Test::Equal, [last, register])
 }
 
 #[test]
@@ -96,10 +97,10 @@ fn schemes_do_not_mix() {
 
 #[test]
 fn has_inverse() {
-    assert!(signal(&[], b'i', [PUBLIC, PRIVATE]));
-    assert!(signal(&[], b'i', [PRIVATE, PUBLIC]));
+    assert!(signal(&[], Test::HasInverse, [PUBLIC, PRIVATE]));
+    assert!(signal(&[], Test::HasInverse, [PRIVATE, PUBLIC]));
     for tested in [[PUBLIC, PUBLIC], [K, K], [GUESS, GUESS], [XK, XK]] {
-        assert!(!signal(&[], b'i', tested));
+        assert!(!signal(&[], Test::HasInverse, tested));
     }
 }
 
@@ -111,9 +112,11 @@ fn terms_that_double_are_compared_at_once() {
             (Rule::Pair, last, last)
         }
     };
-    let mut program: Vec<_> = (0..64).map(doubled(X)).collect();
+    let (half, most) = (MOST_INSTRUCTIONS as u8 / 2, MOST_INSTRUCTIONS as u8);
+    let mut program: Vec<_> = (0..half).map(doubled(X)).collect();
     program.push((Rule::Pair, X, X));
-    program.extend((65..128).map(doubled(X)));
-    assert!(signal(&program, b'=', [FIRST + 63, FIRST + 127]));
-    assert!(!signal(&program, b'=', [FIRST + 63, FIRST + 126]));
+    program.extend((half + 1..most).map(doubled(X)));
+    let (last_of_half, last) = (FIRST + half - 1, FIRST + most - 1);
+    assert!(signal(&program, Test::Equal, [last_of_half, last]));
+    assert!(!signal(&program, Test::Equal, [last_of_half, last - 1]));
 }

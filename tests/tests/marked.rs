@@ -3,7 +3,8 @@
 use checker_tests::bodies::Bodies;
 use checker_tests::examples::submission;
 use checker_tests::generate::padded;
-use checker_tests::reference::{check, run, verdict, Reason, Refusal};
+use checker_tests::reference::{check, run, verdict, Refusal};
+use checker_tests::tables::{Body, Reason};
 
 const M1: [u8; 35] = [
     0x54, 0x03, 0x00, 0x10, 0x4B, 0x02, 0x00, 0x19, 0x44, 0x01, 0x00, 0x1B, 0x56, 0x01, 0x00, 0x1F,
@@ -62,9 +63,15 @@ fn m1_is_accepted_up_to_the_limits() {
     let m1 = Bodies::read(&M1).unwrap();
     let first_line =
         |bodies: Bodies| verdict(&bodies.submission()).lines().next().map(String::from);
-    let at_the_limits = first_line(padded(&m1, 250, 64, 128));
-    assert_eq!(at_the_limits.as_deref(), Some("accepted 128"));
-    for (terms, knowledge, steps, place) in [(251, 2, 1, 0), (250, 65, 1, 1), (3, 2, 129, 2)] {
+    let limits = [Body::Terms, Body::Knowledge, Body::Derivation].map(Body::most);
+    assert_eq!(limits, [250, 64, 128]);
+    let [terms, knowledge, steps] = limits;
+    let at_the_limits = first_line(padded(&m1, terms, knowledge, steps));
+    assert_eq!(at_the_limits, Some(format!("accepted {steps}")));
+    for place in 0..limits.len() {
+        let mut counts = limits;
+        counts[place] += 1;
+        let [terms, knowledge, steps] = counts;
         let over = first_line(padded(&m1, terms, knowledge, steps));
         assert_eq!(over, Some(format!("refused 2 {place}")));
     }

@@ -4,6 +4,7 @@ use checker_tests::bodies::Bodies;
 use checker_tests::examples::submission;
 use checker_tests::generate::Source;
 use checker_tests::notation::{assemble, show};
+use checker_tests::tables::unclaimed;
 
 /// M1 with other words for its parts.
 const TEXT: &str = "\
@@ -38,8 +39,8 @@ fn a_fault_names_its_line() {
         ("terms", "term", 3, "the section `terms` is expected"),
         ("  n\n  plain 2", "  n\n  n", 5, "`n` is listed already"),
         ("  n\n  plain 2", "  nonce\n  plain 2", 4, "`nonce` is no name"),
-        ("  n\n  plain 2", "  secret n\n  plain 2", 4, "`secret` is not plain, public or private"),
-        ("= enc(n, plain 2)", "= hash(n, plain 2)", 6, "`hash` is not pair, enc or enca"),
+        ("  n\n  plain 2", "  xor n\n  plain 2", 4, "`xor` is none of plain, public, private"),
+        ("= enc(n, plain 2)", "= xor(n, plain 2)", 6, "`xor` is none of pair, enc, enca"),
         ("= enc(n, plain 2)", "= enc(n)", 6, "two terms are expected"),
         ("= enc(n, plain 2)", "= enc(n, plain 3)", 6, "no term `plain 3` is listed"),
         ("= enc(n, plain 2)", "= enc n, plain 2", 6, "`(` is expected"),
@@ -47,7 +48,7 @@ fn a_fault_names_its_line() {
         ("  message =", "  a message =", 6, "`a message` is no label"),
         ("knowledge", "", 10, "the section `knowledge` is expected"),
         ("0: n = dec", "1: n = dec", 11, "step 0 is expected"),
-        ("0: n = dec", "0: n = decrypt", 11, "`decrypt` is no rule"),
+        ("0: n = dec", "0: n = xor", 11, "`xor` is no rule"),
         ("0: n = dec", "0: x = dec", 11, "no term `x` is listed"),
         ("guess plain 2", "step 0", 13, "`guess` is expected"),
         ("step 0", "step 256", 14, "`256` is no number below 256"),
@@ -65,21 +66,22 @@ fn a_fault_names_its_line() {
 
 #[test]
 fn what_has_no_words_is_shown_in_numbers() {
+    let [kind, rule, way] = [unclaimed::KINDS, unclaimed::RULES, unclaimed::WAYS].map(|bad| bad[0]);
     let mut bodies = Bodies::read(&submission("M1")).unwrap();
-    bodies.terms.extend([[9, 0, 1], [1, 0, 1], [4, 5, 200]]);
+    bodies.terms.extend([[kind, 0, 1], [1, 0, 1], [4, 5, 200]]);
     bodies.knowledge.push(77);
-    bodies.derivation.extend([[1, 3, 2, 0], [200, 0, 99, 1]]);
-    bodies.claim = [88, 9, b'x', 3];
+    bodies.derivation.extend([[1, 3, 2, 0], [rule, 0, 99, 1]]);
+    bodies.claim = [88, 9, way, 3];
     let text = show(&bodies.submission()).unwrap();
     for line in [
-        "t3 = record 9 0 1",
+        &format!("t3 = record {kind} 0 1"),
         "t4 = record 1 0 1",
         "t5 = pair(@5, @200)",
         "@77",
         "1: plain 1 = fst(t3, t2)",
-        "2: plain 2 = rule200(plain 1, @99)",
+        &format!("2: plain 2 = rule{rule}(plain 1, @99)"),
         "guess @88",
-        "way 120",
+        &format!("way {way}"),
         "companion 3",
     ] {
         assert!(text.lines().any(|shown| shown.trim() == line), "{line}\n{text}");

@@ -2,7 +2,8 @@
 
 use checker_tests::bodies::Bodies;
 use checker_tests::examples::submission;
-use checker_tests::reference::{code, contents, deducible, run, verdict};
+use checker_tests::reference::{code, contents, deducible, run, verdict, REFUSAL};
+use checker_tests::tables::{program_length, unclaimed, Body, MOST_INSTRUCTIONS};
 
 /// The verdict on M1 with changed bytes.
 fn verdict_on_bytes(change: impl Fn(&mut Vec<u8>)) -> String {
@@ -45,22 +46,18 @@ fn counts() {
         ([3, 2, 1, 0], 3),
         ([3, 2, 1, 2], 3),
     ];
-    for ([terms, knowledge, steps, claims], place) in counts {
-        let bytes = contents::submission([
-            &vec![0; 3 * terms],
-            &vec![0; knowledge],
-            &vec![0; 4 * steps],
-            &vec![0; 4 * claims],
-        ]);
+    for (counts, place) in counts {
+        let bodies = Body::ALL.map(|body| vec![0; counts[body as usize] * body.record()]);
+        let bytes = contents::submission(bodies.each_ref().map(Vec::as_slice));
         assert_eq!(verdict(&bytes), format!("refused 2 {place}\n"));
     }
 }
 
 #[test]
 fn terms() {
-    let records =
-        [[0, 0, 1], [7, 0, 1], [1, 0, 2], [5, 0, 1], [4, 3, 0], [4, 0, 3], [5, 0, 2], [6, 0, 1]];
-    for record in records {
+    let no_kinds = unclaimed::KINDS.map(|kind| [kind, 0, 1]);
+    let records = [[1, 0, 2], [5, 0, 1], [4, 3, 0], [4, 0, 3], [5, 0, 2], [6, 0, 1]];
+    for record in no_kinds.into_iter().chain(records) {
         let found = verdict_on_bodies(|bodies| bodies.terms.push(record));
         assert_eq!(found, "refused 3 3\n", "{record:?}");
     }
@@ -75,25 +72,24 @@ fn knowledge() {
 
 #[test]
 fn claims() {
+    let no_ways = unclaimed::WAYS.map(|way| [1, 0, way, 0]);
     let claims = [
         [3, 0, b'b', 0],
         [2, 0, b'b', 0],
         [1, 1, b'b', 0],
-        [1, 0, b'B', 0],
-        [1, 0, b'd', 0],
         [1, 0, b'b', 1],
         [1, 0, b'a', 1],
         [1, 0, b'c', 3],
     ];
-    for claim in claims {
+    for claim in no_ways.into_iter().chain(claims) {
         assert_eq!(verdict_on_bodies(|bodies| bodies.claim = claim), "refused 5 0\n", "{claim:?}");
     }
 }
 
 #[test]
 fn steps() {
+    let no_rules = unclaimed::RULES.map(|rule| [rule, 2, 1, 0]);
     let steps = [
-        [7, 2, 1, 0],
         [4, 3, 1, 0],
         [4, 2, 3, 0],
         [4, 2, 1, 3],
@@ -103,7 +99,7 @@ fn steps() {
         [6, 2, 1, 0],
         [1, 2, 0, 0],
     ];
-    for step in steps {
+    for step in no_rules.into_iter().chain(steps) {
         let found = verdict_on_bodies(|bodies| bodies.derivation[0] = step);
         assert_eq!(found, "refused 6 0\n", "{step:?}");
     }
@@ -124,46 +120,64 @@ fn a_part_has_no_second_premise() {
 
 #[test]
 fn shape_and_foundation_are_tried_step_by_step() {
+    let (unfounded, bad) = ([3, 0, 1, 2], [unclaimed::RULES[0], 0, 0, 0]);
     let unfounded_first = verdict_on_bodies(|bodies| {
         bodies.knowledge = vec![2];
-        bodies.derivation = vec![[3, 0, 1, 2], [9, 0, 0, 0]];
+        bodies.derivation = vec![unfounded, bad];
     });
     assert_eq!(unfounded_first, "refused 7 0\n");
     let shape_first = verdict_on_bodies(|bodies| {
         bodies.knowledge = vec![2];
-        bodies.derivation = vec![[9, 0, 0, 0], [3, 0, 1, 2]];
+        bodies.derivation = vec![bad, unfounded];
     });
     assert_eq!(shape_first, "refused 6 0\n");
 }
 
 #[test]
 fn no_such_term() {
-    assert_eq!(code(deducible(&submission("M1"), 3)), 12 * 65_536);
+    assert_eq!(code(deducible(&submission("M1"), 3)), 12 * REFUSAL);
     assert_eq!(code(deducible(&submission("M1"), 2)), 1);
     assert_eq!(code(deducible(&submission("M1"), 1)), 0);
 }
 
+/// What M1 answers to a program, with the right guess.
+fn answer_to(program: &[u8]) -> u32 {
+    code(run(&submission("M1"), 2, program))
+}
+
 #[test]
 fn programs() {
-    let programs: [&[u8]; 12] = [
+    let programs: [&[u8]; 10] = [
         &[],
         &[0],
         &[1, 4, 1, 2, b'=', 3],
         &[1, 4, 1, 2, b'=', 3, 0, 0],
         &[0, 4, 1, 2, b'=', 3, 0],
-        &[1, 7, 1, 2, b'=', 3, 0],
         &[1, 4, 3, 2, b'=', 3, 0],
         &[1, 4, 1, 3, b'=', 3, 0],
         &[1, 1, 1, 2, b'=', 3, 0],
         &[1, 4, 1, 2, b'=', 4, 0],
         &[1, 4, 1, 2, b'=', 3, 4],
-        &[1, 4, 1, 2, b'a', 3, 0],
     ];
     for program in programs {
-        assert_eq!(code(run(&submission("M1"), 2, program)), 13 * 65_536, "{program:?}");
+        assert_eq!(answer_to(program), 13 * REFUSAL, "{program:?}");
     }
-    let longest: Vec<u8> = [vec![128], vec![0; 3 * 128], vec![b'=', 0, 0]].concat();
-    assert_eq!(code(run(&submission("M1"), 2, &longest)), 1);
-    let too_long: Vec<u8> = [vec![129], vec![0; 3 * 129], vec![b'=', 0, 0]].concat();
-    assert_eq!(code(run(&submission("M1"), 2, &too_long)), 13 * 65_536);
+    for rule in unclaimed::RULES {
+        assert_eq!(answer_to(&[1, rule, 1, 2, b'=', 3, 0]), 13 * REFUSAL, "rule {rule}");
+    }
+    for test in unclaimed::TESTS {
+        assert_eq!(answer_to(&[1, 4, 1, 2, test, 3, 0]), 13 * REFUSAL, "test {test}");
+    }
+}
+
+#[test]
+fn programs_of_the_greatest_length() {
+    let pairs_of_register_0 = |count: usize| {
+        let mut program = vec![0; program_length(count)];
+        program[0] = count as u8;
+        program[program_length(count) - 3] = b'=';
+        program
+    };
+    assert_eq!(answer_to(&pairs_of_register_0(MOST_INSTRUCTIONS)), 1);
+    assert_eq!(answer_to(&pairs_of_register_0(MOST_INSTRUCTIONS + 1)), 13 * REFUSAL);
 }

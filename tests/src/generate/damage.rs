@@ -4,6 +4,7 @@ use super::random::Random;
 use super::steps::{around, builds};
 use super::table::Table;
 use crate::bodies::Bodies;
+use crate::tables::{unclaimed, Kind, Way, CONTENTS_SIZE};
 
 /// The bodies with one change to their records.
 pub fn changed_records(random: &mut Random, bodies: &Bodies) -> Bodies {
@@ -33,18 +34,19 @@ pub fn changed_bytes(random: &mut Random, submission: &[u8]) -> Vec<u8> {
             changed.extend(random.bytes(count));
         }
         _ => {
-            let at = random.below(16);
+            let at = random.below(CONTENTS_SIZE);
             changed[at] = changed[at].wrapping_add(random.pick(&[1, 255, 32, 4, 252]));
         }
     }
     changed
 }
 
-/// Sets one byte to a small number, one that is close by, or any.
+/// Sets one byte to a number that is about as small as those of kinds and rules, one that is close
+/// by, or any.
 pub fn change_byte(random: &mut Random, bytes: &mut [u8]) {
     let at = random.below(bytes.len());
     bytes[at] = match random.below(4) {
-        0 => random.below(8) as u8,
+        0 => random.below(Kind::ALL.len() + 2) as u8,
         1 => bytes[at].wrapping_add(1),
         2 => bytes[at].wrapping_sub(1),
         _ => random.byte(),
@@ -53,7 +55,16 @@ pub fn change_byte(random: &mut Random, bytes: &mut [u8]) {
 
 fn change_term(random: &mut Random, bodies: &mut Bodies) {
     let at = random.below(bodies.terms.len());
-    change_byte(random, &mut bodies.terms[at]);
+    change_record(random, &mut bodies.terms[at], &unclaimed::KINDS);
+}
+
+/// Changes a byte of a record, or puts one of the numbers first, which make it bad.
+fn change_record(random: &mut Random, record: &mut [u8], bad: &[u8]) {
+    if random.chance(20) {
+        record[0] = random.pick(bad);
+    } else {
+        change_byte(random, record);
+    }
 }
 
 fn repeat_term(random: &mut Random, bodies: &mut Bodies) {
@@ -78,7 +89,7 @@ fn change_knowledge(random: &mut Random, bodies: &mut Bodies) {
 fn change_step(random: &mut Random, bodies: &mut Bodies) {
     if !bodies.derivation.is_empty() {
         let at = random.below(bodies.derivation.len());
-        change_byte(random, &mut bodies.derivation[at]);
+        change_record(random, &mut bodies.derivation[at], &unclaimed::RULES);
     }
 }
 
@@ -131,8 +142,17 @@ fn change_claim(random: &mut Random, bodies: &mut Bodies) {
     match random.below(5) {
         0 => bodies.claim[0] = random.below(count + 1) as u8,
         1 => bodies.claim[1] = random.below(bodies.derivation.len() + 1) as u8,
-        2 => bodies.claim[2] = random.pick(b"abcAd"),
+        2 => bodies.claim[2] = other_way(random),
         3 => bodies.claim[3] = random.below(count + 1) as u8,
         _ => change_byte(random, &mut bodies.claim),
+    }
+}
+
+/// The letter of a way, or one that is none.
+fn other_way(random: &mut Random) -> u8 {
+    if random.chance(60) {
+        random.pick(&Way::ALL).letter()
+    } else {
+        random.pick(&unclaimed::WAYS)
     }
 }

@@ -11,13 +11,14 @@ mod steps;
 mod table;
 
 use crate::bodies::Bodies;
-use crate::reference::{self, contents, program_length};
+use crate::reference::{self, contents};
+use crate::tables::{program_length, Body, LONGEST_PROGRAM};
 use program::Registers;
 use protocol::{protocol, Size};
 use random::Random;
 use shapes::Order;
 
-pub use limits::{padded, LONGEST_PAGE, MOST_STEPS, MOST_TERMS};
+pub use limits::padded;
 
 /// What one round of the comparison uses.
 pub struct Input {
@@ -73,10 +74,7 @@ impl Source {
                 damage::changed_bytes(&mut self.random, &submission)
             }
             3 => self.near_limits().submission(),
-            4 => {
-                let bodies = self.kept().clone();
-                limits::wild_counts(&mut self.random, &bodies)
-            }
+            4 => limits::wild_counts(&mut self.random),
             5 => self.noise(),
             _ => self.shape().submission(),
         }
@@ -117,16 +115,15 @@ impl Source {
     /// Plain bytes, or one record of plain bytes in each body.
     fn noise(&mut self) -> Vec<u8> {
         if self.random.chance(50) {
-            let [terms, knowledge, derivation, claim] =
-                [3, 1, 4, 4].map(|size| self.random.bytes(size));
-            return contents::submission([&terms, &knowledge, &derivation, &claim]);
+            let bodies = Body::ALL.map(|body| self.random.bytes(body.record()));
+            return contents::submission(bodies.each_ref().map(Vec::as_slice));
         }
         let length = self.random.below(40);
         self.random.bytes(length)
     }
 
     fn shape(&mut self) -> Bodies {
-        let size = self.random.between(4, MOST_TERMS);
+        let size = self.random.between(4, Body::Terms.most());
         let order = self.random.pick(&[Order::Rising, Order::Falling]);
         match self.random.below(6) {
             0 => shapes::doubling_known(size),
@@ -147,7 +144,7 @@ impl Source {
             1 => self.random.below(exact),
             2 => exact,
             3 => exact + self.random.between(1, 20),
-            _ => LONGEST_PAGE,
+            _ => LONGEST_PROGRAM,
         };
         self.random.bytes(length)
     }
@@ -188,7 +185,7 @@ fn fresh(random: &mut Random) -> Bodies {
     let size = match random.weighted(&[70, 25, 5]) {
         0 => Size { compounds: 8, steps: 8 },
         1 => Size { compounds: 30, steps: 25 },
-        _ => Size { compounds: 150, steps: 128 },
+        _ => Size { compounds: 150, steps: Body::Derivation.most() },
     };
     protocol(random, &size)
 }

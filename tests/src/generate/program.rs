@@ -4,7 +4,9 @@ use super::damage::change_byte;
 use super::random::Random;
 use super::table::Table;
 use crate::bodies::Bodies;
-use crate::reference::Rule;
+use crate::tables::{
+    padded, program_length, unclaimed, Rule, Taking, Test, INSTRUCTION_SIZE, MOST_INSTRUCTIONS,
+};
 
 /// The first registers of a submission: how many, and which hold keys that are inverse.
 pub struct Registers {
@@ -28,7 +30,7 @@ impl Registers {
 /// A program that run takes: each rule occurs, often two that cancel, and often the test looks at
 /// what they leave.
 pub fn valid(random: &mut Random, registers: &Registers) -> Vec<u8> {
-    let most = if random.chance(3) { 128 } else { 12 };
+    let most = if random.chance(3) { MOST_INSTRUCTIONS } else { 12 };
     let count = random.between(0, most);
     let mut writer = Writer { random, registers, instructions: Vec::new(), compared: [0, 0] };
     while writer.instructions.len() + LONGEST_MOTIF <= count {
@@ -44,11 +46,12 @@ pub fn valid(random: &mut Random, registers: &Registers) -> Vec<u8> {
 /// A program with something changed, or plain bytes.
 pub fn damaged(random: &mut Random, program: &[u8]) -> Vec<u8> {
     let mut changed = program.to_vec();
-    match random.weighted(&[60, 10, 10, 5, 15]) {
+    match random.weighted(&[50, 10, 10, 10, 5, 15]) {
         0 => change_byte(random, &mut changed),
-        1 => changed.truncate(random.below(program.len())),
-        2 => changed.push(random.byte()),
-        3 => changed = too_long(random),
+        1 => misname(random, &mut changed),
+        2 => changed.truncate(random.below(program.len())),
+        3 => changed.push(random.byte()),
+        4 => changed = too_long(random),
         _ => {
             let length = random.below(14);
             changed = random.bytes(length);
@@ -57,12 +60,20 @@ pub fn damaged(random: &mut Random, program: &[u8]) -> Vec<u8> {
     changed
 }
 
+/// Puts a number that is no rule, or a letter that is no test, in the place of one.
+fn misname(random: &mut Random, program: &mut [u8]) {
+    let count = usize::from(program[0]);
+    let at = random.below(count + 1);
+    let names = if at < count { unclaimed::RULES } else { unclaimed::TESTS };
+    program[1 + INSTRUCTION_SIZE * at] = random.pick(&names);
+}
+
 /// More instructions than a program may have.
 fn too_long(random: &mut Random) -> Vec<u8> {
-    let count = random.between(129, 255);
-    let mut program = vec![0; 3 * count + 4];
+    let count = random.between(MOST_INSTRUCTIONS + 1, usize::from(u8::MAX));
+    let mut program = vec![0; program_length(count)];
     program[0] = count as u8;
-    program[3 * count + 1] = b'=';
+    program[1 + INSTRUCTION_SIZE * count] = Test::Equal.letter();
     program
 }
 
@@ -72,7 +83,7 @@ const LONGEST_MOTIF: usize = 3;
 struct Writer<'a> {
     random: &'a mut Random,
     registers: &'a Registers,
-    instructions: Vec<[u8; 3]>,
+    instructions: Vec<[u8; INSTRUCTION_SIZE]>,
     /// The last result, and the register that it may equal.
     compared: [u8; 2],
 }
@@ -81,33 +92,34 @@ impl Writer<'_> {
     /// Instructions of which the last may cancel the others, or a single one.
     fn motif(&mut self) {
         let term = self.register();
+        let takings: Vec<_> = Rule::takings().collect();
+        let (taker, taking) = self.random.pick(&takings);
         match self.random.below(7) {
-            0 => {
-                let first = self.emit(Rule::Fst, term, 0);
-                let of = if self.random.chance(70) { term } else { self.register() };
-                let second = self.emit(Rule::Snd, of, 0);
-                self.emit(Rule::Pair, first, second);
-            }
-            1 => {
-                let (beside, part) = (self.register(), self.random.pick(&[Rule::Fst, Rule::Snd]));
-                let operands = if part == Rule::Fst { [term, beside] } else { [beside, term] };
-                let whole = self.emit(Rule::Pair, operands[0], operands[1]);
-                self.emit(part, whole, 0);
-            }
-            2 => self.cancel(Rule::Enc, Rule::Dec, term),
-            3 => self.cancel(Rule::Dec, Rule::Enc, term),
-            4 => self.cancel(Rule::Enca, Rule::Deca, term),
-            5 => self.cancel(Rule::Deca, Rule::Enca, term),
+            0..3 => self.build_and_take(term, taker, taking),
+            3..6 => self.take_and_build(term, taking.from),
             _ => self.single(),
         }
         self.compared = [self.written() - 1, term];
     }
 
-    /// A rule, and then its opposite over the result, with keys that may fit.
-    fn cancel(&mut self, rule: Rule, opposite: Rule, term: u8) {
-        let [key, other] = self.keys();
-        let result = self.emit(rule, term, key);
-        self.emit(opposite, result, other);
+    /// Builds something with the term, and takes it out again with a key that may fit.
+    fn build_and_take(&mut self, term: u8, taker: Rule, taking: Taking) {
+        let [beside, opener] = self.keys();
+        let mut operands = [beside; 2];
+        operands[taking.part] = term;
+        let whole = self.emit(taking.from, operands);
+        self.emit(taker, [whole, opener]);
+    }
+
+    /// Takes parts out of the term, now and then of another, and builds with them.
+    fn take_and_build(&mut self, term: u8, builder: Rule) {
+        let [opener, beside] = self.keys();
+        let mut operands = [beside; 2];
+        for (taker, taking) in builder.takers() {
+            let of = if self.random.chance(85) { term } else { self.register() };
+            operands[taking.part] = self.emit(taker, [of, opener]);
+        }
+        self.emit(builder, operands);
     }
 
     /// Inverse keys, one register twice, or any two.
@@ -124,25 +136,27 @@ impl Writer<'_> {
 
     fn single(&mut self) {
         let rule = self.random.pick(&Rule::ALL);
-        let first = self.register();
-        let second = if rule.is_unary() { 0 } else { self.register() };
-        self.emit(rule, first, second);
+        let operands = [self.register(), self.register()];
+        self.emit(rule, operands);
     }
 
-    fn test(&mut self) -> [u8; 3] {
-        let [first, second] = match self.random.below(10) {
+    fn test(&mut self) -> [u8; INSTRUCTION_SIZE] {
+        let registers = match self.random.below(10) {
             0..5 => self.compared,
             5 if !self.registers.inverse.is_empty() => self.random.pick(&self.registers.inverse),
             _ => [self.register(), self.register()],
         };
-        let letter = if self.random.chance(70) { b'=' } else { b'i' };
-        [letter, first, second]
+        let test = self.random.pick(&Test::ALL);
+        let [first, second] = padded(&registers[..test.registers()]);
+        [test.letter(), first, second]
     }
 
-    fn emit(&mut self, rule: Rule, first: u8, second: u8) -> u8 {
-        let register = self.written();
+    /// Writes the rule over as many of the registers as it uses. Answers the result's register.
+    fn emit(&mut self, rule: Rule, registers: [u8; 2]) -> u8 {
+        let result = self.written();
+        let [first, second] = padded(&registers[..rule.operands()]);
         self.instructions.push([rule.number(), first, second]);
-        register
+        result
     }
 
     /// The next register to be written.

@@ -1,12 +1,12 @@
 //! Random protocols: atoms, messages over them, a guess, what is overheard, a founded derivation,
 //! and a claim that the reference accepts where one is found.
 
-use super::limits::MOST_KNOWLEDGE;
 use super::random::Random;
 use super::steps::{builds, possible, premises, Known};
-use super::table::{Table, ENC, ENCA, PAIR, PLAIN, PRIVATE, PUBLIC};
+use super::table::Table;
 use crate::bodies::Bodies;
 use crate::reference;
+use crate::tables::{Body, Kind, Way};
 
 /// The most counts of a protocol.
 pub struct Size {
@@ -20,11 +20,11 @@ const CLAIMS: usize = 8;
 
 /// A protocol, in most cases one that is accepted in a way chosen beforehand.
 pub fn protocol(random: &mut Random, size: &Size) -> Bodies {
-    let way = random.pick(b"abc");
+    let way = random.pick(&Way::ALL);
     let mut bodies = one_protocol(random, size, way);
     if random.chance(75) {
         for _ in 1..PROTOCOLS {
-            if bodies.claim[2] == way && is_accepted(&bodies) {
+            if bodies.claim[2] == way.letter() && is_accepted(&bodies) {
                 break;
             }
             bodies = one_protocol(random, size, way);
@@ -33,7 +33,7 @@ pub fn protocol(random: &mut Random, size: &Size) -> Bodies {
     bodies
 }
 
-fn one_protocol(random: &mut Random, size: &Size, way: u8) -> Bodies {
+fn one_protocol(random: &mut Random, size: &Size, way: Way) -> Bodies {
     let mut table = Table::default();
     let guess = atoms(random, &mut table);
     for _ in 0..random.between(1, size.compounds) {
@@ -52,31 +52,32 @@ fn atoms(random: &mut Random, table: &mut Table) -> u8 {
     let base = random.number() as u16;
     for _ in 0..random.between(1, 5) {
         let name = base.wrapping_add(random.below(6) as u16);
-        table.atom(PLAIN, name);
+        table.atom(Kind::Plain, name);
     }
-    for _ in 0..random.below(4) {
+    for _ in 0..random.below(6) {
         let name = base.wrapping_add(random.below(3) as u16);
-        let kind = random.pick(&[PUBLIC, PRIVATE]);
+        let kind = random.pick(&Kind::atoms());
         table.atom(kind, name);
     }
-    let kind = random.pick(&[PLAIN, PUBLIC, PRIVATE]);
+    let kind = random.pick(&Kind::atoms());
     let guess = table.atom(kind, base);
     if random.chance(80) {
-        table.atom(if kind == PRIVATE { PUBLIC } else { PRIVATE }, base);
+        // The inverse, or beside a guess without one a key of the same name.
+        table.atom(kind.inverse().unwrap_or(Kind::Private), base);
     }
     guess
 }
 
 /// Lists a compound, often one that the guess opens or that contains the guess.
 fn compound(random: &mut Random, table: &mut Table, guess: u8) {
-    let x = any_term(random, table);
-    let (kind, y) = match random.weighted(&[40, 35, 25]) {
-        0 => (PAIR, Some(any_term(random, table))),
-        1 => (ENC, key(random, table, guess, &[PLAIN])),
-        _ => (ENCA, key(random, table, guess, &[PUBLIC, PRIVATE])),
+    let (kind, rule) = random.pick(&Kind::compounds());
+    let first = any_term(random, table);
+    let second = match kind.keys() {
+        [] => Some(any_term(random, table)),
+        keys => key(random, table, guess, keys),
     };
-    if let Some(y) = y {
-        table.list([kind, x, y]);
+    if let Some(second) = second {
+        table.compound(kind, &[first, second][..rule.operands()]);
     }
 }
 
@@ -88,7 +89,7 @@ fn any_term(random: &mut Random, table: &Table) -> u8 {
 }
 
 /// A listed key of one of the kinds, often the guess or its inverse.
-fn key(random: &mut Random, table: &Table, guess: u8, kinds: &[u8]) -> Option<u8> {
+fn key(random: &mut Random, table: &Table, guess: u8, kinds: &[Kind]) -> Option<u8> {
     let all = table.of_kinds(kinds);
     let near: Vec<u8> = all
         .iter()
@@ -101,21 +102,18 @@ fn key(random: &mut Random, table: &Table, guess: u8, kinds: &[u8]) -> Option<u8
 
 /// Messages that may verify the guess in this way: two that hide the same term, one that hides a
 /// term that is known, or one that hides a key whose inverse is known or hidden as well.
-fn telling_messages(random: &mut Random, table: &mut Table, guess: u8, way: u8) -> Vec<u8> {
+fn telling_messages(random: &mut Random, table: &mut Table, guess: u8, way: Way) -> Vec<u8> {
+    let term = any_term(random, table);
     match way {
-        b'a' => {
-            let term = any_term(random, table);
+        Way::AnotherStep => {
             vec![hidden(random, table, guess, term), hidden(random, table, guess, term)]
         }
-        b'b' => {
-            let term = any_term(random, table);
-            vec![hidden(random, table, guess, term), term]
-        }
-        _ => {
+        Way::KnownBefore => vec![hidden(random, table, guess, term), term],
+        Way::Inverse => {
             let name = random.number() as u16;
-            let (public, private) = (table.atom(PUBLIC, name), table.atom(PRIVATE, name));
-            let (inside, inverse) = random.pick(&[(public, private), (private, public)]);
-            let message = hidden(random, table, guess, inside);
+            let (kind, inverse_kind) = random.pick(&Kind::inverses());
+            let (key, inverse) = (table.atom(kind, name), table.atom(inverse_kind, name));
+            let message = hidden(random, table, guess, key);
             let hide_both = random.chance(50);
             vec![message, if hide_both { hidden(random, table, guess, inverse) } else { inverse }]
         }
@@ -127,32 +125,29 @@ fn hidden(random: &mut Random, table: &mut Table, guess: u8, term: u8) -> u8 {
     let mut message = term;
     for _ in 0..random.below(3) {
         let beside = any_term(random, table);
-        let (x, y) = random.pick(&[(message, beside), (beside, message)]);
-        message = table.list([PAIR, x, y]);
+        let parts = random.pick(&[[message, beside], [beside, message]]);
+        message = table.compound(Kind::Pair, &parts);
     }
-    let [kind, high, low] = table.records[usize::from(guess)];
-    match kind {
-        PLAIN => table.list([ENC, message, guess]),
-        _ => {
-            let key = table.list([PUBLIC + PRIVATE - kind, high, low]);
-            table.list([ENCA, message, key])
-        }
-    }
+    let (opener, name) = table.as_atom(guess).expect("the guess is an atom");
+    let key_kind = opener.inverse().unwrap_or(opener);
+    let kind = Kind::locked_by(key_kind).expect("every atom may be a key");
+    let key = table.atom(key_kind, name);
+    table.compound(kind, &[message, key])
 }
 
 /// The telling messages and some other terms, compounds rather than atoms, and seldom the guess.
 fn overheard(random: &mut Random, table: &Table, guess: u8, telling: &[u8]) -> Vec<u8> {
     let mut knowledge: Vec<u8> = table
         .numbers()
-        .filter(|&number| match table.kind(number) {
+        .filter(|&number| match table.as_atom(number) {
             _ if number == guess => random.chance(2),
             _ if telling.contains(&number) => true,
-            PAIR | ENC | ENCA => random.chance(30),
-            _ => random.chance(15),
+            Some(_) => random.chance(15),
+            None => random.chance(30),
         })
         .collect();
     random.shuffle(&mut knowledge);
-    knowledge.truncate(MOST_KNOWLEDGE);
+    knowledge.truncate(Body::Knowledge.most());
     knowledge
 }
 
@@ -216,22 +211,22 @@ impl Walk {
     }
 
     fn uses_guess(&self, step: [u8; 4]) -> bool {
-        premises(step).iter().any(|&premise| self.guessed.has(premise))
+        premises(&step).iter().any(|&premise| self.guessed.has(premise))
     }
 }
 
 /// A claim with this guess: one that is accepted in this way if it is found, else one that could
 /// hold, else any.
-fn claim(random: &mut Random, bodies: &Bodies, table: &Table, guess: u8, way: u8) -> [u8; 4] {
+fn claim(random: &mut Random, bodies: &Bodies, table: &Table, guess: u8, way: Way) -> [u8; 4] {
     let mut claims = plausible(bodies, table, guess);
     random.shuffle(&mut claims);
     let accepted = claims
         .iter()
-        .filter(|claim| claim[2] == way)
+        .filter(|claim| claim[2] == way.letter())
         .take(CLAIMS)
         .find(|&&claim| is_accepted(&Bodies { claim, ..bodies.clone() }));
     let step = random.below(bodies.derivation.len().max(1)) as u8;
-    let any = [guess, step, way, random.below(4) as u8];
+    let any = [guess, step, way.letter(), random.below(4) as u8];
     *accepted.or(claims.first()).filter(|_| random.chance(92)).unwrap_or(&any)
 }
 
@@ -241,24 +236,31 @@ fn is_accepted(bodies: &Bodies) -> bool {
 
 /// The claims for which the companion and the conclusion fit together.
 fn plausible(bodies: &Bodies, table: &Table, guess: u8) -> Vec<[u8; 4]> {
-    let derivation = &bodies.derivation;
-    let concludes = |term: u8| derivation.iter().any(|step| step[3] == term);
     let mut claims = Vec::new();
-    for (number, step) in derivation.iter().enumerate() {
-        let (number, verifier) = (number as u8, step[3]);
-        if bodies.knowledge.contains(&verifier) || verifier == guess {
-            claims.push([guess, number, b'b', 0]);
-        }
-        for (other, companion) in derivation.iter().enumerate() {
-            if companion[3] == verifier && companion != step {
-                claims.push([guess, number, b'a', other as u8]);
-            }
-        }
-        if let Some(inverse) = table.inverse(verifier) {
-            if bodies.knowledge.contains(&inverse) || inverse == guess || concludes(inverse) {
-                claims.push([guess, number, b'c', inverse]);
-            }
+    for step in 0..bodies.derivation.len() {
+        for way in Way::ALL {
+            let companions = companions(bodies, table, guess, step, way);
+            claims.extend(companions.iter().map(|&by| [guess, step as u8, way.letter(), by]));
         }
     }
     claims
+}
+
+/// The companions that may go with a verifying step in this way.
+fn companions(bodies: &Bodies, table: &Table, guess: u8, step: usize, way: Way) -> Vec<u8> {
+    let Bodies { derivation, knowledge, .. } = bodies;
+    let verifying = derivation[step];
+    let [.., verifier] = verifying;
+    let known_before = |term: u8| knowledge.contains(&term) || term == guess;
+    let known = |term: u8| known_before(term) || derivation.iter().any(|step| step[3] == term);
+    match way {
+        Way::AnotherStep => (0..derivation.len())
+            .filter(|&other| derivation[other][3] == verifier && derivation[other] != verifying)
+            .map(|other| other as u8)
+            .collect(),
+        Way::KnownBefore => known_before(verifier).then_some(0).into_iter().collect(),
+        Way::Inverse => {
+            table.inverse(verifier).filter(|&inverse| known(inverse)).into_iter().collect()
+        }
+    }
 }

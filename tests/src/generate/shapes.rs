@@ -1,11 +1,10 @@
 //! Submissions of regular shape that make much work. All of them pass checks 1 to 7, and the search
 //! for what is deducible goes on until nothing more opens.
 
-use super::limits::{MOST_KNOWLEDGE, MOST_STEPS, MOST_TERMS};
 use super::steps::step;
-use super::table::{Table, ENC, ENCA, PAIR, PLAIN, PRIVATE, PUBLIC};
+use super::table::Table;
 use crate::bodies::Bodies;
-use crate::reference::Rule;
+use crate::tables::{Body, Kind, Rule, Way};
 
 /// The first name of the atoms that a shape adds.
 const FRESH: u16 = 100;
@@ -20,29 +19,29 @@ struct Frame {
 impl Frame {
     fn new() -> Frame {
         let mut table = Table::default();
-        let n = table.atom(PLAIN, 1);
-        let guess = table.atom(PLAIN, 2);
-        let message = table.list([ENC, n, guess]);
+        let n = table.atom(Kind::Plain, 1);
+        let guess = table.atom(Kind::Plain, 2);
+        let message = table.compound(Kind::Enc, &[n, guess]);
         let bodies = Bodies {
             knowledge: vec![n, message],
-            derivation: vec![step(Rule::Dec, message, guess, n)],
-            claim: [guess, 0, b'b', 0],
+            derivation: vec![step(Rule::Dec, &[message, guess], n)],
+            claim: [guess, 0, Way::KnownBefore.letter(), 0],
             ..Bodies::default()
         };
         Frame { table, bodies }
     }
 
     /// A fresh atom of this kind; atoms of both key kinds with one index are inverse.
-    fn atom(&mut self, kind: u8, index: usize) -> u8 {
+    fn atom(&mut self, kind: Kind, index: usize) -> u8 {
         self.table.atom(kind, FRESH + index as u16)
     }
 
     /// Makes the messages known, in pairs where there are too many.
     fn know(&mut self, mut messages: Vec<u8>) {
-        let room = MOST_KNOWLEDGE - self.bodies.knowledge.len();
+        let room = Body::Knowledge.most() - self.bodies.knowledge.len();
         while messages.len() > room {
             let pairs = messages.split_off(messages.len() - 2);
-            messages.push(self.table.list([PAIR, pairs[0], pairs[1]]));
+            messages.push(self.table.compound(Kind::Pair, &pairs));
         }
         self.bodies.knowledge.extend(messages);
     }
@@ -56,25 +55,27 @@ impl Frame {
 /// steps that take the last part out of them.
 pub fn largest() -> Bodies {
     let mut table = Table::default();
-    let guess = table.atom(PLAIN, 0);
-    let levels = MOST_STEPS - 1;
-    let atoms: Vec<u8> =
-        (0..MOST_TERMS - levels - 2).map(|name| table.atom(PLAIN, FRESH + name as u16)).collect();
+    let guess = table.atom(Kind::Plain, 0);
+    let levels = Body::Derivation.most() - 1;
+    let atoms: Vec<u8> = (FRESH..)
+        .take(Body::Terms.most() - levels - 2)
+        .map(|name| table.atom(Kind::Plain, name))
+        .collect();
     let mut nested = vec![atoms[0]];
     for level in 0..levels {
         let beside = atoms[atoms.len() - 1 - level % (atoms.len() / 2)];
-        nested.push(table.list([PAIR, beside, nested[level]]));
+        nested.push(table.compound(Kind::Pair, &[beside, nested[level]]));
     }
-    let message = table.list([ENC, nested[levels], guess]);
-    let taking = nested.windows(2).rev().map(|parts| step(Rule::Snd, parts[1], 0, parts[0]));
+    let message = table.compound(Kind::Enc, &[nested[levels], guess]);
+    let taking = nested.windows(2).rev().map(|parts| step(Rule::Snd, &[parts[1]], parts[0]));
     Bodies {
         terms: table.records,
-        knowledge: [message].into_iter().chain(atoms).take(MOST_KNOWLEDGE).collect(),
-        derivation: [step(Rule::Dec, message, guess, nested[levels])]
+        knowledge: [message].into_iter().chain(atoms).take(Body::Knowledge.most()).collect(),
+        derivation: [step(Rule::Dec, &[message, guess], nested[levels])]
             .into_iter()
             .chain(taking)
             .collect(),
-        claim: [guess, levels as u8, b'b', 0],
+        claim: [guess, levels as u8, Way::KnownBefore.letter(), 0],
     }
 }
 
@@ -90,15 +91,15 @@ pub fn doubling_known(terms: usize) -> Bodies {
 pub fn doubling_asked(terms: usize) -> Bodies {
     let mut frame = Frame::new();
     double(&mut frame, terms);
-    let atom = frame.atom(PLAIN, 0);
+    let atom = frame.atom(Kind::Plain, 0);
     frame.know(vec![atom]);
     frame.finish()
 }
 
 fn double(frame: &mut Frame, terms: usize) -> u8 {
-    let mut last = frame.atom(PLAIN, 0);
+    let mut last = frame.atom(Kind::Plain, 0);
     while frame.table.records.len() < terms {
-        last = frame.table.list([PAIR, last, last]);
+        last = frame.table.compound(Kind::Pair, &[last, last]);
     }
     last
 }
@@ -115,10 +116,10 @@ pub enum Order {
 /// key is known.
 pub fn private_key_chain(links: usize, order: Order) -> Bodies {
     let mut frame = Frame::new();
-    let keys: Vec<u8> = (0..=links).map(|index| frame.atom(PRIVATE, index)).collect();
-    let links: Vec<[u8; 3]> =
-        (0..links).map(|link| [ENCA, keys[link + 1], frame.atom(PUBLIC, link)]).collect();
-    let messages = chain(&mut frame, &links, order);
+    let keys: Vec<u8> = (0..=links).map(|index| frame.atom(Kind::Private, index)).collect();
+    let links: Vec<[u8; 2]> =
+        (0..links).map(|link| [keys[link + 1], frame.atom(Kind::Public, link)]).collect();
+    let messages = chain(&mut frame, Kind::Enca, links, order);
     frame.know([vec![keys[0]], messages].concat());
     frame.finish()
 }
@@ -127,20 +128,20 @@ pub fn private_key_chain(links: usize, order: Order) -> Bodies {
 /// a public key that nothing opens.
 pub fn plain_key_chain(links: usize, locked: usize, order: Order) -> Bodies {
     let mut frame = Frame::new();
-    let keys: Vec<u8> = (0..=links).map(|index| frame.atom(PLAIN, index)).collect();
-    let links: Vec<[u8; 3]> = (0..links).map(|link| [ENC, keys[link + 1], keys[link]]).collect();
-    let messages = chain(&mut frame, &links, order);
+    let keys: Vec<u8> = (0..=links).map(|index| frame.atom(Kind::Plain, index)).collect();
+    let links = keys.windows(2).map(|keys| [keys[1], keys[0]]).collect();
+    let messages = chain(&mut frame, Kind::Enc, links, order);
     let locked = self::locked(&mut frame, locked);
     frame.know([vec![keys[0]], messages, locked].concat());
     frame.finish()
 }
 
-fn chain(frame: &mut Frame, links: &[[u8; 3]], order: Order) -> Vec<u8> {
-    let mut listed = links.to_vec();
+/// Lists the links, each a message and the key that locks it.
+fn chain(frame: &mut Frame, kind: Kind, mut links: Vec<[u8; 2]>, order: Order) -> Vec<u8> {
     if let Order::Falling = order {
-        listed.reverse();
+        links.reverse();
     }
-    listed.into_iter().map(|record| frame.table.list(record)).collect()
+    links.iter().map(|link| frame.table.compound(kind, link)).collect()
 }
 
 /// Nested pairs known from the outside, and encryptions under a public key that nothing opens: some
@@ -148,11 +149,11 @@ fn chain(frame: &mut Frame, links: &[[u8; 3]], order: Order) -> Vec<u8> {
 pub fn nested_pairs(levels: usize, beside: usize, known: usize) -> Bodies {
     let mut frame = Frame::new();
     let mut locked = locked(&mut frame, beside + known);
-    let mut nested = frame.atom(PLAIN, 0);
+    let mut nested = frame.atom(Kind::Plain, 0);
     for level in 0..levels {
         let next = if level < levels - beside { Some(nested) } else { locked.pop() };
         let next = next.expect("an encryption for each outer pair");
-        nested = frame.table.list([PAIR, nested, next]);
+        nested = frame.table.compound(Kind::Pair, &[nested, next]);
     }
     frame.know([vec![nested], locked].concat());
     frame.finish()
@@ -160,11 +161,11 @@ pub fn nested_pairs(levels: usize, beside: usize, known: usize) -> Bodies {
 
 /// Encryptions, each of the former, under one public key whose inverse is not listed.
 fn locked(frame: &mut Frame, count: usize) -> Vec<u8> {
-    let key = frame.atom(PUBLIC, 0);
+    let key = frame.atom(Kind::Public, 0);
     let mut inner = key;
     (0..count)
         .map(|_| {
-            inner = frame.table.list([ENCA, inner, key]);
+            inner = frame.table.compound(Kind::Enca, &[inner, key]);
             inner
         })
         .collect()

@@ -1,7 +1,7 @@
 //! The steps that can be made over a table from a set of known terms.
 
-use super::table::{Table, ENC, ENCA, PAIR};
-use crate::reference::Rule;
+use super::table::Table;
+use crate::tables::{padded, Opener, Rule};
 
 /// The terms known so far, by number.
 pub struct Known(Vec<bool>);
@@ -29,40 +29,37 @@ pub fn possible(table: &Table, known: &Known) -> Vec<[u8; 4]> {
     table
         .numbers()
         .flat_map(|number| around(table, number))
-        .filter(|step| premises(*step).iter().all(|&premise| known.has(premise)))
+        .filter(|step| premises(step).iter().all(|&premise| known.has(premise)))
         .collect()
 }
 
 /// The steps that build the compound with this number or take it apart, if it is one and the
 /// inverse key is listed.
 pub fn around(table: &Table, number: u8) -> Vec<[u8; 4]> {
-    let Some(&[kind, x, y]) = table.records.get(usize::from(number)) else {
+    let Some((rule, operands)) = table.as_compound(number) else {
         return vec![];
     };
-    match kind {
-        PAIR => vec![
-            step(Rule::Pair, x, y, number),
-            step(Rule::Fst, number, 0, x),
-            step(Rule::Snd, number, 0, y),
-        ],
-        ENC => vec![step(Rule::Enc, x, y, number), step(Rule::Dec, number, y, x)],
-        ENCA => {
-            let opening = table.inverse(y).map(|key| step(Rule::Deca, number, key, x));
-            [step(Rule::Enca, x, y, number)].into_iter().chain(opening).collect()
-        }
-        _ => vec![],
+    let mut steps = vec![step(rule, operands, number)];
+    for (taker, taking) in rule.takers() {
+        let premises = match taking.opener {
+            Opener::Nothing => Some(vec![number]),
+            Opener::Key => Some(vec![number, operands[1]]),
+            Opener::InverseKey => table.inverse(operands[1]).map(|key| vec![number, key]),
+        };
+        steps.extend(premises.map(|premises| step(taker, &premises, operands[taking.part])));
     }
+    steps
 }
 
-pub fn step(rule: Rule, p: u8, q: u8, conclusion: u8) -> [u8; 4] {
+pub fn step(rule: Rule, premises: &[u8], conclusion: u8) -> [u8; 4] {
+    let [p, q] = padded(premises);
     [rule.number(), p, q, conclusion]
 }
 
-pub fn premises([rule, p, q, _]: [u8; 4]) -> Vec<u8> {
-    match Rule::from_number(rule) {
-        Some(rule) if rule.is_unary() => vec![p],
-        _ => vec![p, q],
-    }
+/// The premises of a step with a rule.
+pub fn premises([rule, premises @ .., _]: &[u8; 4]) -> &[u8] {
+    let rule = Rule::from_number(*rule).expect("a step of the generator has a rule");
+    &premises[..rule.operands()]
 }
 
 /// Whether the step builds a compound.

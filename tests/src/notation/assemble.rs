@@ -3,9 +3,9 @@
 use std::collections::HashMap;
 use std::fmt;
 
-use super::{atom_text, name, ATOMS, COMPOUNDS, SECTIONS};
+use super::{atom_text, name, WORDLESS};
 use crate::bodies::Bodies;
-use crate::reference::Rule;
+use crate::tables::{padded, Body, Companion, Kind, Rule, Way};
 
 /// What is wrong with a text, and in which line.
 #[derive(PartialEq, Eq, Debug)]
@@ -42,16 +42,17 @@ struct Section<'a> {
 }
 
 /// The lines under each heading, without blank lines and comments.
-fn sections(text: &str) -> Result<[Section<'_>; 4], Fault> {
+fn sections(text: &str) -> Result<[Section<'_>; Body::ALL.len()], Fault> {
+    let headings = Body::ALL.map(Body::word);
     let mut found: Vec<Section> = Vec::new();
     for (index, line) in text.lines().enumerate() {
         let (number, line) = (index + 1, line.trim());
         if line.is_empty() || line.starts_with('#') {
             continue;
         }
-        if SECTIONS.get(found.len()) == Some(&line) {
+        if headings.get(found.len()) == Some(&line) {
             found.push(Section { heading: number, lines: Vec::new() });
-        } else if let Some(section) = found.last_mut().filter(|_| !SECTIONS.contains(&line)) {
+        } else if let Some(section) = found.last_mut().filter(|_| !headings.contains(&line)) {
             section.lines.push((number, line));
         } else {
             return Err(misplaced(number, found.len()));
@@ -62,8 +63,8 @@ fn sections(text: &str) -> Result<[Section<'_>; 4], Fault> {
 }
 
 fn misplaced(line: usize, sections: usize) -> Fault {
-    let message = match SECTIONS.get(sections) {
-        Some(heading) => format!("the section `{heading}` is expected"),
+    let message = match Body::ALL.get(sections) {
+        Some(body) => format!("the section `{}` is expected", body.word()),
         None => "no further section is expected".to_string(),
     };
     Fault { line, message }
@@ -97,9 +98,9 @@ impl Table {
                 (label(before.trim())?, self.definition(definition.trim())?)
             }
             None => {
-                let (kind, name, text) = atom(line)?;
+                let (kind, name) = atom(line)?;
                 let [high, low] = name.to_be_bytes();
-                (text, [kind, high, low])
+                (atom_text(kind, name), [kind.number(), high, low])
             }
         };
         let number = self.numbers.len() as u8;
@@ -116,12 +117,13 @@ impl Table {
             return bytes.try_into().map_err(|_| "a record has three bytes".to_string());
         }
         let (word, operands) = application(text)?;
-        let (kind, _) = COMPOUNDS
+        let compounds = Kind::compounds();
+        let (kind, rule) = compounds
             .iter()
-            .find(|(_, kind_word)| *kind_word == word)
-            .ok_or_else(|| format!("`{word}` is not pair, enc or enca"))?;
-        let [x, y] = self.two(&operands)?;
-        Ok([*kind, x, y])
+            .find(|(kind, _)| kind.word() == word)
+            .ok_or_else(|| unknown(word, compounds.iter().map(|(kind, _)| kind.word())))?;
+        let [x, y] = self.operands(Some(*rule), &operands)?;
+        Ok([kind.number(), x, y])
     }
 
     /// The number of the term that the text names.
@@ -132,15 +134,18 @@ impl Table {
         if let Some(&number) = self.numbers.get(text) {
             return Ok(number);
         }
-        let listed = atom(text).ok().and_then(|(_, _, text)| self.numbers.get(&text));
+        let listed =
+            atom(text).ok().and_then(|(kind, name)| self.numbers.get(&atom_text(kind, name)));
         listed.copied().ok_or_else(|| format!("no term `{text}` is listed"))
     }
 
-    fn two(&self, operands: &[&str]) -> Parsed<[u8; 2]> {
-        match operands {
-            [x, y] => Ok([self.number(x)?, self.number(y)?]),
-            _ => Err("two terms are expected between the brackets".to_string()),
+    /// The numbers of two operands, or of as many as the rule uses.
+    fn operands(&self, rule: Option<Rule>, texts: &[&str]) -> Parsed<[u8; 2]> {
+        if texts.len() != 2 && rule.map(Rule::operands) != Some(texts.len()) {
+            return Err("two terms are expected between the brackets".to_string());
         }
+        let numbers: Vec<u8> = texts.iter().map(|text| self.number(text)).collect::<Parsed<_>>()?;
+        Ok(padded(&numbers))
     }
 
     /// The record of a step.
@@ -155,11 +160,7 @@ impl Table {
         let conclusion = self.number(conclusion.trim())?;
         let (word, operands) = application(applied.trim())?;
         let rule = rule_number(word)?;
-        let is_unary = Rule::from_number(rule).is_some_and(Rule::is_unary);
-        let [p, q] = match operands[..] {
-            [only] if is_unary => [self.number(only)?, 0],
-            _ => self.two(&operands)?,
-        };
+        let [p, q] = self.operands(Rule::from_number(rule), &operands)?;
         Ok([rule, p, q, conclusion])
     }
 
@@ -174,13 +175,13 @@ impl Table {
         match *keyword {
             "way" => parse_way(value),
             "guess" => self.number(value),
-            "companion" if way == b'c' => self.number(value),
+            "companion" if companion(way) == Some(Companion::Term) => self.number(value),
             _ => parse_byte(value),
         }
     }
 }
 
-/// The lines of the claim. Ways other than a and c may leave out the companion.
+/// The lines of the claim. The companion may be left out where it is not a step or a term.
 const CLAIM: [&str; 4] = ["guess", "step", "way", "companion"];
 
 fn read_claim(table: &Table, section: &Section) -> Result<[u8; 4], Fault> {
@@ -191,12 +192,20 @@ fn read_claim(table: &Table, section: &Section) -> Result<[u8; 4], Fault> {
         Ok(())
     })?;
     let given = section.lines.len();
-    let needed = if matches!(claim[2], b'a' | b'c') { 4 } else { 3 };
+    let needed = match companion(claim[2]) {
+        Some(Companion::Step | Companion::Term) => 4,
+        Some(Companion::Zero) | None => 3,
+    };
     if given < needed {
         let line = section.lines.last().map_or(section.heading, |(line, _)| *line);
         return Err(Fault { line, message: format!("`{}` is missing", CLAIM[given]) });
     }
     Ok(claim)
+}
+
+/// What the companion is in the way with this letter, if there is one.
+fn companion(way: u8) -> Option<Companion> {
+    Way::from_letter(way).map(Way::companion)
 }
 
 /// The word before the brackets, and the texts between them.
@@ -206,19 +215,25 @@ fn application(text: &str) -> Parsed<(&str, Vec<&str>)> {
     Ok((word.trim(), operands.split(',').map(str::trim).collect()))
 }
 
-/// The kind, the name and the canonical text of an atom.
-fn atom(text: &str) -> Parsed<(u8, u16, String)> {
-    let (kind_word, name_text) = text.split_once(' ').unwrap_or(("plain", text));
-    let (kind, kind_word) = ATOMS
+/// The kind and the name of an atom.
+fn atom(text: &str) -> Parsed<(Kind, u16)> {
+    let (word, name_text) = text.split_once(' ').unwrap_or((WORDLESS.word(), text));
+    let atoms = Kind::atoms();
+    let kind = atoms
         .iter()
-        .find(|(_, word)| *word == kind_word)
-        .ok_or_else(|| format!("`{kind_word}` is not plain, public or private"))?;
+        .find(|kind| kind.word() == word)
+        .ok_or_else(|| unknown(word, atoms.iter().map(|kind| kind.word())))?;
     let name = name::parse(name_text.trim()).ok_or_else(|| {
         format!(
             "`{name_text}` is no name: a number below 65536, or one to three letters and digits"
         )
     })?;
-    Ok((*kind, name, atom_text(kind_word, name)))
+    Ok((*kind, name))
+}
+
+/// Says that a word is none of the expected ones.
+fn unknown<'a>(word: &str, expected: impl Iterator<Item = &'a str>) -> String {
+    format!("`{word}` is none of {}", expected.collect::<Vec<_>>().join(", "))
 }
 
 /// A label: letters, digits and `_`, a letter first.
@@ -239,8 +254,8 @@ fn rule_number(word: &str) -> Parsed<u8> {
 }
 
 fn parse_way(text: &str) -> Parsed<u8> {
-    match text {
-        "a" | "b" | "c" => Ok(text.as_bytes()[0]),
+    match text.as_bytes() {
+        &[letter] if Way::from_letter(letter).is_some() => Ok(letter),
         _ => parse_byte(text),
     }
 }

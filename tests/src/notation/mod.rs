@@ -24,20 +24,16 @@ mod show;
 pub use assemble::{assemble, Fault};
 pub use show::show;
 
-/// The section headings in order.
-const SECTIONS: [&str; 4] = ["terms", "knowledge", "derivation", "claim"];
+use crate::tables::Kind;
 
-/// The words of the compound kinds.
-const COMPOUNDS: [(u8, &str); 3] = [(4, "pair"), (5, "enc"), (6, "enca")];
-
-/// The words of the atom kinds.
-const ATOMS: [(u8, &str); 3] = [(1, "plain"), (2, "public"), (3, "private")];
+/// The kind of an atom that is written without the word of its kind.
+const WORDLESS: Kind = Kind::Plain;
 
 /// An atom as the canonical layout writes it.
-fn atom_text(kind_word: &str, name: u16) -> String {
+fn atom_text(kind: Kind, name: u16) -> String {
     match name::word(name) {
-        Some(word) if kind_word == "plain" => word,
-        Some(word) => format!("{kind_word} {word}"),
-        None => format!("{kind_word} {name}"),
+        Some(word) if kind == WORDLESS => word,
+        Some(word) => format!("{} {word}", kind.word()),
+        None => format!("{} {name}", kind.word()),
     }
 }

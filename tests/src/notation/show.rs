@@ -2,9 +2,10 @@
 
 use std::collections::HashSet;
 
-use super::{atom_text, ATOMS, COMPOUNDS, SECTIONS};
+use super::atom_text;
 use crate::bodies::Bodies;
-use crate::reference::{Checked, Rule};
+use crate::reference::Checked;
+use crate::tables::{used, Body, Companion, Kind, Rule, Way};
 
 /// The canonical text of a submission that passes checks 1 and 2.
 pub fn show(submission: &[u8]) -> Checked<String> {
@@ -22,8 +23,8 @@ pub fn show(submission: &[u8]) -> Checked<String> {
         claim_lines(&terms.names, bodies.claim),
     ];
     let mut text = String::new();
-    for (heading, lines) in SECTIONS.iter().zip(sections) {
-        text += &format!("{heading}\n");
+    for (body, lines) in Body::ALL.into_iter().zip(sections) {
+        text += &format!("{}\n", body.word());
         for line in lines {
             text += &format!("  {line}\n");
         }
@@ -54,16 +55,16 @@ impl Terms {
 
     /// What stands after the label of a term that is not listed as an atom.
     fn definition(&self, [kind, x, y]: [u8; 3]) -> String {
-        match COMPOUNDS.iter().find(|(number, _)| *number == kind) {
-            Some((_, word)) => application(&self.names, word, &[x, y]),
+        match Kind::from_number(kind).and_then(Kind::rule) {
+            Some(rule) => application(&self.names, rule, [x, y]),
             None => format!("record {kind} {x} {y}"),
         }
     }
 }
 
 fn atom([kind, x, y]: [u8; 3]) -> Option<String> {
-    let (_, word) = ATOMS.iter().find(|(number, _)| *number == kind)?;
-    Some(atom_text(word, u16::from_be_bytes([x, y])))
+    let kind = Kind::from_number(kind).filter(|kind| kind.is_atom())?;
+    Some(atom_text(kind, u16::from_be_bytes([x, y])))
 }
 
 /// The term with this number, by name where it has one.
@@ -71,7 +72,13 @@ fn reference(names: &[String], number: u8) -> String {
     names.get(usize::from(number)).cloned().unwrap_or_else(|| format!("@{number}"))
 }
 
-fn application(names: &[String], word: &str, operands: &[u8]) -> String {
+/// The rule's word over its operands; over both where one that it does not use is not 0.
+fn application(names: &[String], rule: Rule, operands: [u8; 2]) -> String {
+    let shown = used(rule.operands(), &operands).unwrap_or(&operands);
+    brackets(names, rule.word(), shown)
+}
+
+fn brackets(names: &[String], word: &str, operands: &[u8]) -> String {
     let operands: Vec<String> = operands.iter().map(|&number| reference(names, number)).collect();
     format!("{word}({})", operands.join(", "))
 }
@@ -79,28 +86,25 @@ fn application(names: &[String], word: &str, operands: &[u8]) -> String {
 fn step_text(names: &[String], [rule, p, q, conclusion]: [u8; 4]) -> String {
     let concluded = reference(names, conclusion);
     let applied = match Rule::from_number(rule) {
-        Some(rule) if rule.is_unary() && q == 0 => application(names, rule.word(), &[p]),
-        Some(rule) => application(names, rule.word(), &[p, q]),
-        None => application(names, &format!("rule{rule}"), &[p, q]),
+        Some(rule) => application(names, rule, [p, q]),
+        None => brackets(names, &format!("rule{rule}"), &[p, q]),
     };
     format!("{concluded} = {applied}")
 }
 
 fn claim_lines(names: &[String], [guess, step, way, companion]: [u8; 4]) -> Vec<String> {
-    let way_text = match way {
-        b'a'..=b'c' => char::from(way).to_string(),
-        _ => way.to_string(),
+    let known_way = Way::from_letter(way);
+    let way_text = known_way.map_or(way.to_string(), |way| char::from(way.letter()).to_string());
+    let companion_text = match known_way.map(Way::companion) {
+        Some(Companion::Term) => Some(reference(names, companion)),
+        Some(Companion::Step) => Some(companion.to_string()),
+        Some(Companion::Zero) | None => (companion != 0).then(|| companion.to_string()),
     };
     let mut lines = vec![
         format!("guess {}", reference(names, guess)),
         format!("step {step}"),
         format!("way {way_text}"),
     ];
-    match way {
-        b'c' => lines.push(format!("companion {}", reference(names, companion))),
-        b'a' => lines.push(format!("companion {companion}")),
-        _ if companion != 0 => lines.push(format!("companion {companion}")),
-        _ => {}
-    }
+    lines.extend(companion_text.map(|text| format!("companion {text}")));
     lines
 }

@@ -3,9 +3,9 @@
 
 use super::deduction::Deduction;
 use super::derivation::Step;
-use super::refusal::{refuse, Checked, Reason};
-use super::submission::{Claim, Submission, Way};
-use super::term::Term;
+use super::refusal::{refuse, Checked};
+use super::submission::{Claim, Submission};
+use crate::tables::{Companion, Reason, Way};
 
 /// Checks 8 to 10.
 pub fn verified(submission: &mut Submission, claim: &Claim, steps: &[Step]) -> Checked<()> {
@@ -14,7 +14,7 @@ pub fn verified(submission: &mut Submission, claim: &Claim, steps: &[Step]) -> C
     if verifying.premises.iter().all(|premise| deduction.reaches(premise)) {
         return refuse(Reason::Reachable, claim.step);
     }
-    if !has_second_way(&submission.knowledge, claim, steps) {
+    if !has_second_way(submission, claim, steps) {
         return refuse(Reason::NoSecondWay, claim.step);
     }
     match first_undone(claim, steps) {
@@ -23,17 +23,18 @@ pub fn verified(submission: &mut Submission, claim: &Claim, steps: &[Step]) -> C
     }
 }
 
-fn has_second_way(knowledge: &[Term], claim: &Claim, steps: &[Step]) -> bool {
+fn has_second_way(submission: &Submission, claim: &Claim, steps: &[Step]) -> bool {
     let verifying = &steps[claim.step];
     let verifier = &verifying.conclusion;
-    let known_before = |term| knowledge.contains(term) || *term == claim.guess;
-    match &claim.way {
-        Way::AnotherStep(companion) => {
-            let other = &steps[*companion];
+    let known_before = |term| submission.knowledge.contains(term) || *term == claim.guess;
+    match claim.way {
+        Way::AnotherStep => {
+            let other = &steps[claim.companion];
             other.conclusion == *verifier && other.differs(verifying)
         }
         Way::KnownBefore => known_before(verifier),
-        Way::Inverse(inverse) => {
+        Way::Inverse => {
+            let inverse = &submission.terms[claim.companion];
             verifier.is_inverse_of(inverse)
                 && (known_before(inverse) || steps.iter().any(|step| step.conclusion == *inverse))
         }
@@ -43,8 +44,8 @@ fn has_second_way(knowledge: &[Term], claim: &Claim, steps: &[Step]) -> bool {
 /// The lowest step that the verifying step undoes, or the companion step.
 fn first_undone(claim: &Claim, steps: &[Step]) -> Option<usize> {
     let mut undoing = vec![&steps[claim.step]];
-    if let Way::AnotherStep(companion) = claim.way {
-        undoing.push(&steps[companion]);
+    if claim.way.companion() == Companion::Step {
+        undoing.push(&steps[claim.companion]);
     }
     steps.iter().position(|step| undoing.iter().any(|by| by.undoes(step)))
 }

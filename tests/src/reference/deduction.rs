@@ -2,7 +2,8 @@
 
 use std::collections::{HashMap, HashSet};
 
-use super::term::{Shape, Store, Term};
+use super::term::{Store, Term};
+use crate::tables::Opener;
 
 /// The terms that taking apart reaches from the knowledge. Anything else that is deducible is
 /// built from these.
@@ -16,17 +17,17 @@ impl Deduction {
         let mut deduction = Deduction { known: knowledge.iter().cloned().collect() };
         let mut whole = knowledge.to_vec();
         loop {
-            let (open, closed): (Vec<_>, Vec<_>) =
-                whole.into_iter().partition(|term| deduction.opens(store, term));
-            if open.is_empty() {
+            let mut parts = Vec::new();
+            whole.retain(|term| {
+                let opened = deduction.opened(store, term);
+                parts.extend_from_slice(&opened);
+                opened.is_empty()
+            });
+            if parts.is_empty() {
                 return deduction;
             }
-            whole = closed;
-            for part in open.iter().flat_map(contained) {
-                if deduction.known.insert(part.clone()) {
-                    whole.push(part.clone());
-                }
-            }
+            parts.retain(|part| deduction.known.insert(part.clone()));
+            whole.append(&mut parts);
         }
     }
 
@@ -35,13 +36,25 @@ impl Deduction {
         self.builds(term, &mut HashMap::new())
     }
 
-    /// Whether a known term can be taken apart.
-    fn opens(&self, store: &mut Store, term: &Term) -> bool {
-        match term.shape() {
-            Shape::Pair(..) => true,
-            Shape::Enc(_, key) => self.reaches(key),
-            Shape::Enca(_, key) => store.inverse(key).is_some_and(|key| self.reaches(&key)),
-            _ => false,
+    /// What can be taken out of a known term.
+    fn opened(&self, store: &mut Store, term: &Term) -> Vec<Term> {
+        let Some((rule, operands)) = term.made_by() else {
+            return vec![];
+        };
+        rule.takers()
+            .filter(|(_, taking)| self.opens(store, taking.opener, operands))
+            .map(|(_, taking)| operands[taking.part].clone())
+            .collect()
+    }
+
+    /// Whether what opens a term with these operands is deducible.
+    fn opens(&self, store: &mut Store, opener: Opener, operands: &[Term]) -> bool {
+        match opener {
+            Opener::Nothing => true,
+            Opener::Key => self.reaches(&operands[1]),
+            Opener::InverseKey => {
+                store.inverse(&operands[1]).is_some_and(|inverse| self.reaches(&inverse))
+            }
         }
     }
 
@@ -54,16 +67,8 @@ impl Deduction {
             return answer;
         }
         let parts = term.parts();
-        let answer = !parts.is_empty() && parts.into_iter().all(|part| self.builds(part, found));
+        let answer = !parts.is_empty() && parts.iter().all(|part| self.builds(part, found));
         found.insert(term.clone(), answer);
         answer
-    }
-}
-
-/// What an opened term gives: both parts of a pair, the message of an encryption.
-fn contained(term: &Term) -> Vec<&Term> {
-    match term.shape() {
-        Shape::Enc(message, _) | Shape::Enca(message, _) => vec![message],
-        _ => term.parts(),
     }
 }

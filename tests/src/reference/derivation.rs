@@ -2,15 +2,16 @@
 
 use std::collections::HashSet;
 
-use super::refusal::{refuse, Checked, Reason};
-use super::rule::{taken_apart, Rule};
+use super::refusal::{refuse, Checked};
+use super::rule::taken_apart;
 use super::submission::Submission;
-use super::term::Term;
+use super::term::{Operands, Term};
+use crate::tables::{used, Reason, Rule};
 
-/// A step that passes check 6. The rules fst and snd have one premise, the others two.
+/// A step that passes check 6.
 pub struct Step {
     pub rule: Rule,
-    pub premises: Vec<Term>,
+    pub premises: Operands,
     pub conclusion: Term,
 }
 
@@ -18,9 +19,7 @@ impl Step {
     /// Whether one of the two steps builds the compound that the other takes apart.
     pub fn undoes(&self, other: &Step) -> bool {
         let (builder, taker) = if self.rule.builds() { (self, other) } else { (other, self) };
-        builder.rule.builds()
-            && !taker.rule.builds()
-            && taker.premises.first() == Some(&builder.conclusion)
+        builder.rule.builds() && !taker.rule.builds() && taker.premises[0] == builder.conclusion
     }
 
     /// Whether the two steps differ in the rule or in the set of premises.
@@ -53,17 +52,12 @@ pub fn founded(submission: &mut Submission, guess: &Term) -> Checked<Vec<Step>> 
 
 fn read_step(submission: &mut Submission, [rule, p, q, conclusion]: [u8; 4]) -> Option<Step> {
     let rule = Rule::from_number(rule)?;
-    let first = submission.term(p)?.clone();
-    let second = submission.term(q)?.clone();
+    let premises = Operands::numbered(&submission.terms, used(rule.operands(), &[p, q])?)?;
     let conclusion = submission.term(conclusion)?.clone();
-    if rule.is_unary() && q != 0 {
-        return None;
-    }
     let concluded = if rule.builds() {
-        submission.store.headed(rule, &first, &second)
+        submission.store.headed(rule, premises.clone())
     } else {
-        taken_apart(rule, &first, &second)?
+        taken_apart(rule, &premises)?
     };
-    let premises = if rule.is_unary() { vec![first] } else { vec![first, second] };
     (concluded == conclusion).then_some(Step { rule, premises, conclusion })
 }

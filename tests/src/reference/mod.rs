@@ -17,16 +17,14 @@ use conditions::verified;
 use deduction::Deduction;
 use derivation::founded;
 use program::Program;
+use refusal::refuse;
 use submission::Submission;
 
-pub use program::program_length;
-pub use refusal::{code, Checked, Reason, Refusal};
-pub use rule::Rule;
-pub use submission::records;
-pub use term::Kind;
-pub use wrong_guess::{guess, is_wrong_guess};
+use crate::tables::Reason;
 
-use refusal::refuse;
+pub use refusal::{code, Checked, Refusal, REFUSAL};
+pub use submission::records;
+pub use wrong_guess::{guess, is_wrong_guess};
 
 /// Checks a submission. An acceptance carries the number of steps and writes the program on the
 /// page.
@@ -78,5 +76,5 @@ fn accepted_program(submission: &[u8]) -> Checked<Program> {
     let claim = submission.claim()?;
     let steps = founded(&mut submission, &claim.guess)?;
     verified(&mut submission, &claim, &steps)?;
-    Ok(Program::of(&submission.knowledge, &claim, &steps))
+    Ok(Program::of(&submission, &claim, &steps))
 }

@@ -1,50 +1,25 @@
-//! The register program: its layout on the page, its reading (check 13) and its text.
+//! The register program: its writing, its reading (check 13) and its text.
 
 use std::fmt;
 
 use super::derivation::Step;
-use super::refusal::{refuse, Checked, Reason};
-use super::rule::Rule;
-use super::submission::{records, Claim, Way};
+use super::refusal::{refuse, Checked};
+use super::submission::{records, Claim, Submission};
 use super::term::Term;
+use crate::tables::{
+    program_length, used, Companion, Reason, Rule, Test, INSTRUCTION_SIZE, MOST_INSTRUCTIONS,
+};
 
-/// The most instructions that a program may have.
-const MOST_INSTRUCTIONS: usize = 128;
-
-/// The bytes of a program with this number of instructions.
-pub const fn program_length(instructions: usize) -> usize {
-    3 * instructions + 4
-}
-
-/// A rule over two registers; for fst and snd the second is 0 and not used.
+/// A rule over registers; one that it does not use is 0.
 pub struct Instruction {
     pub rule: Rule,
-    pub registers: [u8; 2],
+    registers: [u8; 2],
 }
 
-#[derive(Clone, Copy, PartialEq, Eq, Debug)]
-pub enum Test {
-    Equal,
-    HasInverse,
-}
-
-impl Test {
-    fn letter(self) -> u8 {
-        match self {
-            Test::Equal => b'=',
-            Test::HasInverse => b'i',
-        }
-    }
-
-    fn word(self) -> &'static str {
-        match self {
-            Test::Equal => "=",
-            Test::HasInverse => "hasinv",
-        }
-    }
-
-    fn from_letter(letter: u8) -> Option<Test> {
-        [Test::Equal, Test::HasInverse].into_iter().find(|test| test.letter() == letter)
+impl Instruction {
+    /// The registers that the rule uses.
+    pub fn operands(&self) -> &[u8] {
+        &self.registers[..self.rule.operands()]
     }
 }
 
@@ -58,20 +33,18 @@ pub struct Program {
 
 impl Program {
     /// The program of an accepted claim.
-    pub fn of(knowledge: &[Term], claim: &Claim, steps: &[Step]) -> Program {
-        let registers = Registers::holding(knowledge, &claim.guess, steps);
-        let first_written = registers.of_step(0);
-        let verifying = registers.of_step(claim.step);
-        let (test, second) = match &claim.way {
-            Way::AnotherStep(companion) => (Test::Equal, registers.of_step(*companion)),
-            Way::KnownBefore => (Test::Equal, registers.lowest(&steps[claim.step].conclusion)),
-            Way::Inverse(inverse) => (Test::HasInverse, registers.lowest(inverse)),
+    pub fn of(submission: &Submission, claim: &Claim, steps: &[Step]) -> Program {
+        let registers = Registers::holding(&submission.knowledge, &claim.guess, steps);
+        let second = match claim.way.companion() {
+            Companion::Step => registers.of_step(claim.companion),
+            Companion::Zero => registers.lowest(&steps[claim.step].conclusion),
+            Companion::Term => registers.lowest(&submission.terms[claim.companion]),
         };
         Program {
-            first_written,
+            first_written: registers.of_step(0),
             instructions: steps.iter().map(|step| registers.instruction(step)).collect(),
-            test,
-            tested: [verifying, second].map(byte),
+            test: claim.way.test(),
+            tested: [registers.of_step(claim.step), second].map(byte),
         }
     }
 
@@ -97,40 +70,50 @@ fn read(bytes: &[u8], first_written: usize) -> Option<Program> {
     if count > MOST_INSTRUCTIONS || bytes.len() != program_length(count) {
         return None;
     }
-    let (body, test) = rest.split_at(3 * count);
+    let (body, test) = rest.split_at(INSTRUCTION_SIZE * count);
     let instructions = records(body)
         .enumerate()
         .map(|(number, record)| read_instruction(record, first_written + number))
         .collect::<Option<_>>()?;
-    let tested = [test[1], test[2]];
-    let written = first_written + count;
-    tested.iter().all(|&register| usize::from(register) < written).then_some(())?;
-    Some(Program { first_written, instructions, test: Test::from_letter(test[0])?, tested })
+    let (test, tested) = (Test::from_letter(test[0])?, [test[1], test[2]]);
+    are_written(test.registers(), &tested, first_written + count).then_some(Program {
+        first_written,
+        instructions,
+        test,
+        tested,
+    })
 }
 
 /// An instruction that may name the registers below `written`.
 fn read_instruction([rule, first, second]: [u8; 3], written: usize) -> Option<Instruction> {
-    let rule = Rule::from_number(rule)?;
-    let second_fits = if rule.is_unary() { second == 0 } else { usize::from(second) < written };
-    (usize::from(first) < written && second_fits)
-        .then_some(Instruction { rule, registers: [first, second] })
+    let (rule, registers) = (Rule::from_number(rule)?, [first, second]);
+    are_written(rule.operands(), &registers, written).then_some(Instruction { rule, registers })
+}
+
+/// Whether the registers in use, `count` of them, are below `written`, and the others 0.
+fn are_written(count: usize, registers: &[u8; 2], written: usize) -> bool {
+    used(count, registers)
+        .is_some_and(|used| used.iter().all(|&register| usize::from(register) < written))
 }
 
 /// The lines after `accepted`: one a step, and the test.
 impl fmt::Display for Program {
     fn fmt(&self, f: &mut fmt::Formatter) -> fmt::Result {
-        for (number, Instruction { rule, registers: [first, second] }) in
-            self.instructions.iter().enumerate()
-        {
-            write!(f, "r{} = {} r{first}", self.first_written + number, rule.word())?;
-            if !rule.is_unary() {
-                write!(f, " r{second}")?;
-            }
-            writeln!(f)?;
+        for (number, instruction) in self.instructions.iter().enumerate() {
+            write!(f, "r{} = {}", self.first_written + number, instruction.rule.word())?;
+            end_line(f, instruction.operands())?;
         }
-        let [first, second] = self.tested;
-        writeln!(f, "signal r{first} {} r{second}", self.test.word())
+        let (first, others) = self.tested[..self.test.registers()].split_at(1);
+        write!(f, "signal r{} {}", first[0], self.test.word())?;
+        end_line(f, others)
     }
+}
+
+fn end_line(f: &mut fmt::Formatter, registers: &[u8]) -> fmt::Result {
+    for register in registers {
+        write!(f, " r{register}")?;
+    }
+    writeln!(f)
 }
 
 /// The term that each register holds with the right guess: the knowledge, the guess, the
@@ -160,7 +143,7 @@ impl<'a> Registers<'a> {
 
     fn instruction(&self, step: &Step) -> Instruction {
         let mut registers = [0; 2];
-        for (register, premise) in registers.iter_mut().zip(&step.premises) {
+        for (register, premise) in registers.iter_mut().zip(step.premises.iter()) {
             *register = byte(self.lowest(premise));
         }
         Instruction { rule: step.rule, registers }

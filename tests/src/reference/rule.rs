@@ -1,67 +1,32 @@
-//! The seven rules.
+//! What the rules give where they meet what another rule made.
 
-use super::term::{Shape, Term};
+use super::term::Term;
+use crate::tables::{Opener, Rule, Taking};
 
-#[derive(Clone, Copy, PartialEq, Eq, Debug)]
-pub enum Rule {
-    Pair,
-    Fst,
-    Snd,
-    Enc,
-    Dec,
-    Enca,
-    Deca,
+/// What the rule takes out of its first operand: a part of a pair, or the message of an encryption
+/// that the second operand opens.
+pub fn taken_apart(rule: Rule, operands: &[Term]) -> Option<Term> {
+    let Taking { part, from, opener } = rule.takes()?;
+    let built_from = operands[0].operands_of(from)?;
+    opens(opener, built_from, operands).then(|| built_from[part].clone())
 }
 
-impl Rule {
-    /// The rules by number.
-    pub const ALL: [Rule; 7] =
-        [Rule::Pair, Rule::Fst, Rule::Snd, Rule::Enc, Rule::Dec, Rule::Enca, Rule::Deca];
-
-    pub fn from_number(number: u8) -> Option<Rule> {
-        Rule::ALL.get(usize::from(number)).copied()
-    }
-
-    pub fn from_word(word: &str) -> Option<Rule> {
-        Rule::ALL.into_iter().find(|rule| rule.word() == word)
-    }
-
-    pub fn number(self) -> u8 {
-        self as u8
-    }
-
-    pub fn word(self) -> &'static str {
-        match self {
-            Rule::Pair => "pair",
-            Rule::Fst => "fst",
-            Rule::Snd => "snd",
-            Rule::Enc => "enc",
-            Rule::Dec => "dec",
-            Rule::Enca => "enca",
-            Rule::Deca => "deca",
-        }
-    }
-
-    /// Whether the rule has one premise only.
-    pub fn is_unary(self) -> bool {
-        matches!(self, Rule::Fst | Rule::Snd)
-    }
-
-    /// Whether the rule concludes a compound of its premises.
-    pub fn builds(self) -> bool {
-        matches!(self, Rule::Pair | Rule::Enc | Rule::Enca)
-    }
+/// The term out of which the rules that take apart took the operands: t for pair(fst t, snd t),
+/// enc(dec(t, k), k), and enca(deca(t, j), k) with inverse keys.
+pub fn put_together(rule: Rule, operands: &[Term]) -> Option<Term> {
+    let mut wholes = rule.takers().map(|(taker, Taking { part, opener, .. })| {
+        let taken_from = operands[part].operands_of(taker)?;
+        opens(opener, operands, taken_from).then(|| taken_from[0].clone())
+    });
+    let whole = wholes.next()??;
+    wholes.all(|other| other.as_ref() == Some(&whole)).then_some(whole)
 }
 
-/// What the rule takes out of `whole`: a part of a pair, or the message of an encryption that
-/// `key` opens.
-pub fn taken_apart(rule: Rule, whole: &Term, key: &Term) -> Option<Term> {
-    let part = match (rule, whole.shape()) {
-        (Rule::Fst, Shape::Pair(first, _)) => first,
-        (Rule::Snd, Shape::Pair(_, second)) => second,
-        (Rule::Dec, Shape::Enc(message, k)) if k == key => message,
-        (Rule::Deca, Shape::Enca(message, k)) if k.is_inverse_of(key) => message,
-        _ => return None,
-    };
-    Some(part.clone())
+/// Whether a rule with these operands takes apart what one with those built, by its second operand.
+fn opens(opener: Opener, built_from: &[Term], taken_from: &[Term]) -> bool {
+    match opener {
+        Opener::Nothing => true,
+        Opener::Key => built_from[1] == taken_from[1],
+        Opener::InverseKey => built_from[1].is_inverse_of(&taken_from[1]),
+    }
 }

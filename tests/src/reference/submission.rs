@@ -3,8 +3,9 @@
 use std::collections::HashSet;
 
 use super::contents;
-use super::refusal::{refuse, Checked, Reason};
-use super::term::{Kind, Shape, Store, Term};
+use super::refusal::{refuse, Checked};
+use super::term::{Operands, Store, Term};
+use crate::tables::{used, Companion, Kind, Reason, Way};
 
 /// A submission that passes checks 1 to 4. Derivation and claim are kept as records.
 pub struct Submission {
@@ -15,21 +16,12 @@ pub struct Submission {
     claim: [u8; 4],
 }
 
-/// The second way to the verifier.
-pub enum Way {
-    /// The step with this number concludes it as well.
-    AnotherStep(usize),
-    /// It is in the knowledge, or the guess.
-    KnownBefore,
-    /// It is a key and this is to be its inverse.
-    Inverse(Term),
-}
-
-/// A claim that passes check 5.
+/// A claim that passes check 5. The companion numbers what the way says.
 pub struct Claim {
     pub guess: Term,
     pub step: usize,
     pub way: Way,
+    pub companion: usize,
 }
 
 impl Claim {
@@ -61,18 +53,19 @@ impl Submission {
     fn read_claim(&self) -> Option<Claim> {
         let [guess, step, way, companion] = self.claim;
         let guess = self.term(guess).filter(|term| term.atom().is_some())?.clone();
-        let step = self.step(step)?;
-        let way = match way {
-            b'a' => Way::AnotherStep(self.step(companion)?),
-            b'b' if companion == 0 => Way::KnownBefore,
-            b'c' => Way::Inverse(self.term(companion)?.clone()),
-            _ => return None,
+        let way = Way::from_letter(way)?;
+        let companions = match way.companion() {
+            Companion::Step => self.derivation.len(),
+            Companion::Zero => 1,
+            Companion::Term => self.terms.len(),
         };
-        Some(Claim { guess, step, way })
-    }
-
-    fn step(&self, number: u8) -> Option<usize> {
-        Some(usize::from(number)).filter(|&step| step < self.derivation.len())
+        let (step, companion) = (usize::from(step), usize::from(companion));
+        (step < self.derivation.len() && companion < companions).then_some(Claim {
+            guess,
+            step,
+            way,
+            companion,
+        })
     }
 }
 
@@ -95,17 +88,13 @@ fn read_terms(store: &mut Store, body: &[u8]) -> Checked<Vec<Term>> {
 }
 
 fn read_term(store: &mut Store, earlier: &[Term], [kind, x, y]: [u8; 3]) -> Option<Term> {
-    if let Some(kind) = Kind::from_number(kind) {
+    let kind = Kind::from_number(kind)?;
+    let Some(rule) = kind.rule() else {
         return Some(store.atom(kind, u16::from_be_bytes([x, y])));
-    }
-    let (x, y) = (earlier.get(usize::from(x))?.clone(), earlier.get(usize::from(y))?.clone());
-    let shape = match kind {
-        4 => Shape::Pair(x, y),
-        5 if y.is_plain() => Shape::Enc(x, y),
-        6 if y.is_key() => Shape::Enca(x, y),
-        _ => return None,
     };
-    Some(store.term(shape))
+    let operands = Operands::numbered(earlier, used(rule.operands(), &[x, y])?)?;
+    let keyed = kind.keys().is_empty() || kind.keys().contains(&operands[1].kind()?);
+    keyed.then(|| store.headed(rule, operands))
 }
 
 /// Check 4.

@@ -5,55 +5,58 @@
 
 use std::collections::HashSet;
 use std::hash::{Hash, Hasher};
+use std::ops::Deref;
 use std::rc::Rc;
 
-use super::rule::Rule;
+use crate::tables::{Kind, Rule};
 
-/// The kinds of atom.
-#[derive(Clone, Copy, PartialEq, Eq, Hash, Debug)]
-pub enum Kind {
-    Plain,
-    Public,
-    Private,
-}
-
-impl Kind {
-    pub const ALL: [Kind; 3] = [Kind::Plain, Kind::Public, Kind::Private];
-
-    /// The kind with this number in a term record.
-    pub fn from_number(number: u8) -> Option<Kind> {
-        Kind::ALL.into_iter().find(|kind| kind.number() == number)
-    }
-
-    pub fn number(self) -> u8 {
-        match self {
-            Kind::Plain => 1,
-            Kind::Public => 2,
-            Kind::Private => 3,
-        }
-    }
-
-    /// The kind of the inverse key; a plain atom has none.
-    fn inverse(self) -> Option<Kind> {
-        match self {
-            Kind::Plain => None,
-            Kind::Public => Some(Kind::Private),
-            Kind::Private => Some(Kind::Public),
-        }
-    }
-}
-
-/// What a term is made of: an atom, or the word of a rule over one or two operands.
-#[derive(PartialEq, Eq, Hash)]
-pub enum Shape {
+/// What a term is made of: an atom's kind and name, or the word of a rule over its operands.
+#[derive(PartialEq, Eq)]
+enum Shape {
     Atom(Kind, u16),
-    Pair(Term, Term),
-    Fst(Term),
-    Snd(Term),
-    Enc(Term, Term),
-    Dec(Term, Term),
-    Enca(Term, Term),
-    Deca(Term, Term),
+    Headed(Rule, Operands),
+}
+
+impl Hash for Shape {
+    fn hash<H: Hasher>(&self, state: &mut H) {
+        match self {
+            Shape::Atom(kind, name) => (kind, name).hash(state),
+            Shape::Headed(rule, operands) => {
+                rule.hash(state);
+                operands.iter().for_each(|operand| operand.hash(state));
+            }
+        }
+    }
+}
+
+/// The operands of a rule.
+#[derive(Clone, PartialEq, Eq)]
+pub enum Operands {
+    One([Term; 1]),
+    Two([Term; 2]),
+}
+
+impl Operands {
+    /// The terms with these numbers, of which there are one or two.
+    pub fn numbered(terms: &[Term], numbers: &[u8]) -> Option<Operands> {
+        let term = |number: u8| terms.get(usize::from(number)).cloned();
+        match *numbers {
+            [x] => Some(Operands::One([term(x)?])),
+            [x, y] => Some(Operands::Two([term(x)?, term(y)?])),
+            _ => panic!("a rule has one or two operands"),
+        }
+    }
+}
+
+impl Deref for Operands {
+    type Target = [Term];
+
+    fn deref(&self) -> &[Term] {
+        match self {
+            Operands::One(operands) => operands,
+            Operands::Two(operands) => operands,
+        }
+    }
 }
 
 #[derive(Clone)]
@@ -74,15 +77,37 @@ impl Hash for Term {
 }
 
 impl Term {
-    pub fn shape(&self) -> &Shape {
-        &self.0
-    }
-
     /// The kind and name of an atom.
     pub fn atom(&self) -> Option<(Kind, u16)> {
-        match *self.shape() {
+        match *self.0 {
             Shape::Atom(kind, name) => Some((kind, name)),
-            _ => None,
+            Shape::Headed(..) => None,
+        }
+    }
+
+    /// The rule that made the term, and from what.
+    pub fn made_by(&self) -> Option<(Rule, &[Term])> {
+        match &*self.0 {
+            Shape::Atom(..) => None,
+            Shape::Headed(rule, operands) => Some((*rule, operands)),
+        }
+    }
+
+    /// The operands from which this rule made the term.
+    pub fn operands_of(&self, rule: Rule) -> Option<&[Term]> {
+        self.made_by().filter(|(by, _)| *by == rule).map(|(_, operands)| operands)
+    }
+
+    /// The operands that the term is made from, keys included.
+    pub fn parts(&self) -> &[Term] {
+        self.made_by().map_or(&[], |(_, operands)| operands)
+    }
+
+    /// The kind that the term has in a record.
+    pub fn kind(&self) -> Option<Kind> {
+        match *self.0 {
+            Shape::Atom(kind, _) => Some(kind),
+            Shape::Headed(rule, _) => Kind::built_by(rule),
         }
     }
 
@@ -92,31 +117,9 @@ impl Term {
         Some((kind.inverse()?, name))
     }
 
-    pub fn is_plain(&self) -> bool {
-        matches!(self.shape(), Shape::Atom(Kind::Plain, _))
-    }
-
-    /// Whether the term is a key of the asymmetric kinds.
-    pub fn is_key(&self) -> bool {
-        self.inverse_atom().is_some()
-    }
-
     /// Whether the two terms are keys and each other's inverse.
     pub fn is_inverse_of(&self, other: &Term) -> bool {
-        self.is_key() && self.inverse_atom() == other.atom()
-    }
-
-    /// The operands that the term is made from, keys included.
-    pub fn parts(&self) -> Vec<&Term> {
-        match self.shape() {
-            Shape::Atom(..) => vec![],
-            Shape::Fst(x) | Shape::Snd(x) => vec![x],
-            Shape::Pair(x, y)
-            | Shape::Enc(x, y)
-            | Shape::Dec(x, y)
-            | Shape::Enca(x, y)
-            | Shape::Deca(x, y) => vec![x, y],
-        }
+        self.inverse_atom().is_some_and(|inverse| other.atom() == Some(inverse))
     }
 }
 
@@ -127,15 +130,6 @@ pub struct Store {
 }
 
 impl Store {
-    pub fn term(&mut self, shape: Shape) -> Term {
-        if let Some(copy) = self.copies.get(&shape) {
-            return Term(Rc::clone(copy));
-        }
-        let copy = Rc::new(shape);
-        self.copies.insert(Rc::clone(&copy));
-        Term(copy)
-    }
-
     pub fn atom(&mut self, kind: Kind, name: u16) -> Term {
         self.term(Shape::Atom(kind, name))
     }
@@ -145,17 +139,17 @@ impl Store {
         Some(self.atom(kind, name))
     }
 
-    /// The rule's word over its operands; fst and snd have only the first.
-    pub fn headed(&mut self, rule: Rule, first: &Term, second: &Term) -> Term {
-        let (first, second) = (first.clone(), second.clone());
-        self.term(match rule {
-            Rule::Pair => Shape::Pair(first, second),
-            Rule::Fst => Shape::Fst(first),
-            Rule::Snd => Shape::Snd(first),
-            Rule::Enc => Shape::Enc(first, second),
-            Rule::Dec => Shape::Dec(first, second),
-            Rule::Enca => Shape::Enca(first, second),
-            Rule::Deca => Shape::Deca(first, second),
-        })
+    /// The rule's word over its operands.
+    pub fn headed(&mut self, rule: Rule, operands: Operands) -> Term {
+        self.term(Shape::Headed(rule, operands))
+    }
+
+    fn term(&mut self, shape: Shape) -> Term {
+        if let Some(copy) = self.copies.get(&shape) {
+            return Term(Rc::clone(copy));
+        }
+        let copy = Rc::new(shape);
+        self.copies.insert(Rc::clone(&copy));
+        Term(copy)
     }
 }

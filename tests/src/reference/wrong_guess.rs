@@ -4,7 +4,8 @@ use std::collections::HashSet;
 
 use super::refusal::Checked;
 use super::submission::Submission;
-use super::term::{Kind, Term};
+use super::term::Term;
+use crate::tables::Kind;
 
 /// The kind and name of the submission's own guess, which is the right one.
 pub fn guess(submission: &[u8]) -> Checked<(Kind, u16)> {
@@ -28,7 +29,7 @@ fn parts_of(messages: &[Term]) -> HashSet<Term> {
     let mut waiting = messages.to_vec();
     while let Some(term) = waiting.pop() {
         if parts.insert(term.clone()) {
-            waiting.extend(term.parts().into_iter().cloned());
+            waiting.extend_from_slice(term.parts());
         }
     }
     parts

@@ -11,7 +11,8 @@ use std::time::Instant;
 use checker_tests::examples;
 use checker_tests::generate::{Input, Source};
 use checker_tests::library;
-use checker_tests::reference::{self, code, program_length};
+use checker_tests::reference::{self, code, REFUSAL};
+use checker_tests::tables::program_length;
 use tally::{Call, Tally};
 
 const DEFAULT_SEED: u64 = 1;
@@ -134,7 +135,7 @@ fn difference(input: &Input, call: &str, sides: &str) -> String {
 
 /// An answer of the C boundary in words.
 fn answer(code: u32) -> String {
-    match (code / 65_536, code % 65_536) {
+    match (code / REFUSAL, code % REFUSAL) {
         (0, value) => value.to_string(),
         (number, place) => format!("refused {number} {place}"),
     }

@@ -1,9 +1,8 @@
 //! Counts of what the inputs reached.
 
 use checker_tests::bodies::Bodies;
-use checker_tests::reference::{Checked, Kind, Reason};
-
-const WAYS: [u8; 3] = *b"abc";
+use checker_tests::reference::Checked;
+use checker_tests::tables::{Kind, Reason, Way};
 
 #[derive(Clone, Copy)]
 pub enum Call {
@@ -26,7 +25,7 @@ pub struct Tally {
     /// The lowest and highest place of each refusal.
     places: [Option<(usize, usize)>; Reason::ALL.len()],
     /// Accepted submissions by way and by kind of guess.
-    accepted: [[u64; Kind::ALL.len()]; WAYS.len()],
+    accepted: [[u64; Kind::ALL.len()]; Way::ALL.len()],
     pub wrong_guesses: u64,
 }
 
@@ -37,7 +36,7 @@ impl Tally {
             Ok(true) => answers.yes += 1,
             Ok(false) => answers.no += 1,
             Err(refusal) => {
-                let row = refusal.reason as usize - 1;
+                let row = refusal.reason as usize;
                 answers.refused[row] += 1;
                 let (low, high) = self.places[row].unwrap_or((refusal.place, refusal.place));
                 self.places[row] = Some((low.min(refusal.place), high.max(refusal.place)));
@@ -48,25 +47,26 @@ impl Tally {
     /// Counts an accepted submission with a guess of this kind.
     pub fn count_accepted(&mut self, submission: &[u8], guess: Kind) {
         let claim = Bodies::read(submission).expect("the submission is accepted").claim;
-        let way = WAYS.iter().position(|&way| way == claim[2]).expect("the claim is accepted");
-        self.accepted[way][guess as usize] += 1;
+        let way = Way::from_letter(claim[2]).expect("the claim is accepted");
+        self.accepted[way as usize][guess as usize] += 1;
     }
 
     pub fn print(&self) {
         println!("{:<20}{:>10}{:>10}{:>10}  places", "answer", "check", "deducible", "run");
         self.print_row("accepted, yes, 1", |answers| answers.yes, String::new());
         self.print_row("no, 0", |answers| answers.no, String::new());
-        for (row, reason) in Reason::ALL.into_iter().enumerate() {
+        for reason in Reason::ALL {
             let title = format!("{:>2} {}", reason.number(), reason.word());
-            let places = match self.places[row] {
+            let places = match self.places[reason as usize] {
                 Some((low, high)) => format!("{low} to {high}"),
                 None => String::new(),
             };
-            self.print_row(&title, |answers| answers.refused[row], places);
+            self.print_row(&title, |answers| answers.refused[reason as usize], places);
         }
-        println!("\n{:<20}{:>10}{:>10}{:>10}", "accepted, guess", "plain", "public", "private");
-        for (way, [plain, public, private]) in WAYS.into_iter().zip(self.accepted) {
-            println!("{:<20}{plain:>10}{public:>10}{private:>10}", format!("way {}", way as char));
+        println!("\n{}", accepted_row("accepted, guess", |kind| kind.word().to_string()));
+        for way in Way::ALL {
+            let count = |kind| self.accepted[way as usize][kind as usize].to_string();
+            println!("{}", accepted_row(&way_title(way), count));
         }
         println!("\nwrong guesses that signalled 0: {}", self.wrong_guesses);
     }
@@ -79,17 +79,17 @@ impl Tally {
     /// Fails where a refusal, a way or a kind of guess was never reached.
     pub fn complete(&self) -> Result<(), String> {
         let mut missing = Vec::new();
-        for (row, reason) in Reason::ALL.into_iter().enumerate() {
-            if self.answers.iter().all(|answers| answers.refused[row] == 0) {
+        for reason in Reason::ALL {
+            if self.answers.iter().all(|answers| answers.refused[reason as usize] == 0) {
                 missing.push(format!("refusal {}", reason.number()));
             }
         }
-        for (way, row) in WAYS.into_iter().zip(self.accepted) {
-            if row.iter().sum::<u64>() == 0 {
-                missing.push(format!("way {}", way as char));
+        for way in Way::ALL {
+            if self.accepted[way as usize].iter().sum::<u64>() == 0 {
+                missing.push(way_title(way));
             }
         }
-        for kind in Kind::ALL {
+        for kind in Kind::atoms() {
             if self.accepted.iter().all(|row| row[kind as usize] == 0) {
                 missing.push(format!("a guess of kind {}", kind.number()));
             }
@@ -100,4 +100,15 @@ impl Tally {
             Err(format!("never reached: {}", missing.join(", ")))
         }
     }
+}
+
+fn way_title(way: Way) -> String {
+    format!("way {}", char::from(way.letter()))
+}
+
+/// A row with one cell for each kind of guess.
+fn accepted_row(title: &str, cell: impl Fn(Kind) -> String) -> String {
+    let cells: String =
+        Kind::atoms().into_iter().map(|kind| format!("{:>10}", cell(kind))).collect();
+    format!("{title:<20}{cells}")
 }

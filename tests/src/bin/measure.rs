@@ -1,0 +1,149 @@
+//! `measure VERDICT`: one round of the benchmark. Times the checker over its C boundary, and its
+//! program VERDICT from start to end, beside the reference and on the same inputs. Prints a line
+//! for each input: call, input, bytes, and the nanoseconds of the checker and of the reference.
+//! Pages are not cleared between calls.
+
+use std::env;
+use std::ffi::OsStr;
+use std::fs::File;
+use std::hint::black_box;
+use std::process::{Command, Stdio};
+use std::time::{Duration, Instant};
+
+use checker_tests::bodies::Bodies;
+use checker_tests::examples;
+use checker_tests::generate::shapes::{self, Order};
+use checker_tests::library;
+use checker_tests::reference::{self, code};
+use checker_tests::tables::{Body, Rule, Test, LONGEST_PROGRAM, MOST_INSTRUCTIONS};
+
+/// The shortest time to measure, and how many measurements the fastest is taken of. Short ones end
+/// before another process gets the processor.
+const SHORTEST: Duration = Duration::from_millis(1);
+const MEASUREMENTS: usize = 25;
+
+/// An example of about twenty terms.
+const TYPICAL: &str = "003-needham-schroeder-kas";
+
+fn main() {
+    let verdict = env::args_os().nth(1).expect("usage: measure VERDICT");
+    for (title, submission) in submissions() {
+        measure_check(&title, &submission);
+    }
+    for (title, submission) in submissions() {
+        measure_deducible(&title, &submission);
+    }
+    measure_own_page("M1", &examples::submission("M1"));
+    measure_own_page("typical", &examples::submission(TYPICAL));
+    measure_own_page("largest accepted", &shapes::largest().submission());
+    let doubling = shapes::doubling_known(Body::Terms.most()).submission();
+    measure_run("128 times pair r r, 250 terms", &doubling, &doubling_program(&doubling));
+    for name in ["M1", TYPICAL] {
+        measure_program(name, &verdict);
+    }
+}
+
+fn submissions() -> Vec<(String, Vec<u8>)> {
+    let terms = Body::Terms.most();
+    let mut submissions = vec![
+        ("M1".to_string(), examples::submission("M1")),
+        ("typical (Needham-Schroeder)".to_string(), examples::submission(TYPICAL)),
+        ("largest accepted".to_string(), shapes::largest().submission()),
+        ("doubling pairs known".to_string(), shapes::doubling_known(terms).submission()),
+        ("doubling pairs asked".to_string(), shapes::doubling_asked(terms).submission()),
+        ("nested pairs, 100 locked".to_string(), shapes::nested_pairs(143, 40, 60).submission()),
+    ];
+    for (word, order) in [("rising", Order::Rising), ("falling", Order::Falling)] {
+        submissions.push((
+            format!("76 private keys, {word}"),
+            shapes::private_key_chain(76, order).submission(),
+        ));
+        submissions.push((
+            format!("52 plain keys, 75 locked, {word}"),
+            shapes::plain_key_chain(52, 75, order).submission(),
+        ));
+    }
+    submissions
+}
+
+fn measure_check(title: &str, submission: &[u8]) {
+    let mut page = [0; LONGEST_PROGRAM];
+    let checker = nanoseconds(|| library::check(black_box(submission), &mut page));
+    let reference = nanoseconds(|| code(reference::check(black_box(submission), &mut page)));
+    print_row("check", title, submission.len(), checker, reference);
+}
+
+/// Asks for the last term.
+fn measure_deducible(title: &str, submission: &[u8]) {
+    let last = (bodies(submission).terms.len() - 1) as u8;
+    let checker = nanoseconds(|| library::deducible(black_box(submission), last));
+    let reference = nanoseconds(|| code(reference::deducible(black_box(submission), last)));
+    print_row("deducible", title, submission.len(), checker, reference);
+}
+
+/// Runs the program with the right guess.
+fn measure_run(title: &str, submission: &[u8], program: &[u8]) {
+    let (_, name) = reference::guess(submission).expect("a submission that can be run");
+    let checker = nanoseconds(|| library::run(black_box(submission), name, program));
+    let reference = nanoseconds(|| code(reference::run(black_box(submission), name, program)));
+    print_row("run", title, submission.len() + program.len(), checker, reference);
+}
+
+/// Runs what the check writes on the page.
+fn measure_own_page(title: &str, submission: &[u8]) {
+    let program = reference::program(submission).expect("an accepted submission");
+    measure_run(&format!("{title}, its own page"), submission, &program);
+}
+
+/// Starts the program on an example, and the reference's program, which is built beside this one.
+fn measure_program(name: &str, verdict: &OsStr) {
+    let this = env::current_exe().expect("the path of this program");
+    let reference = this.with_file_name("reference");
+    let checker = nanoseconds(|| started(verdict, name));
+    let reference = nanoseconds(|| started(reference.as_os_str(), name));
+    print_row("verdict", name, examples::submission(name).len(), checker, reference);
+}
+
+fn started(program: &OsStr, name: &str) {
+    let input = File::open(examples::path(name, "sub")).expect("an example");
+    let status = Command::new(program).stdin(input).stdout(Stdio::null()).status();
+    assert!(status.expect("the program starts").success());
+}
+
+/// A program that pairs the last register with itself, as often as a program may.
+fn doubling_program(submission: &[u8]) -> Vec<u8> {
+    let guess = bodies(submission).knowledge.len();
+    let last = (guess + MOST_INSTRUCTIONS) as u8;
+    let instructions: Vec<u8> = (guess as u8..last)
+        .flat_map(|register| [Rule::Pair.number(), register, register])
+        .collect();
+    let test = [Test::Equal.letter(), last, last - 1];
+    [&[MOST_INSTRUCTIONS as u8], &instructions[..], &test].concat()
+}
+
+fn bodies(submission: &[u8]) -> Bodies {
+    Bodies::read(submission).expect("a submission with four bodies")
+}
+
+/// The time of a call, by the fastest measurement.
+fn nanoseconds<T>(mut call: impl FnMut() -> T) -> f64 {
+    let mut calls: u32 = 1;
+    while timed(&mut call, calls) < SHORTEST {
+        calls *= 2;
+    }
+    (0..MEASUREMENTS)
+        .map(|_| timed(&mut call, calls).as_nanos() as f64 / f64::from(calls))
+        .fold(f64::INFINITY, f64::min)
+}
+
+fn timed<T>(call: &mut impl FnMut() -> T, calls: u32) -> Duration {
+    let start = Instant::now();
+    for _ in 0..calls {
+        black_box(call());
+    }
+    start.elapsed()
+}
+
+fn print_row(call: &str, title: &str, bytes: usize, checker: f64, reference: f64) {
+    println!("{call}\t{title}\t{bytes}\t{checker}\t{reference}");
+}

@@ -1,0 +1,61 @@
+//! The kinds of term.
+
+use super::Rule;
+
+table! {
+    /// The kinds of term record: atoms, whose two bytes are a name, and compounds.
+    Kind: KindRow {
+        /// The first byte of the record.
+        number: u8,
+        /// The word of the notation.
+        word: &'static str,
+        /// The kind of the inverse, for a key that has one.
+        inverse: Option<Kind>,
+        /// The rule that builds the compound from the terms that the two bytes number.
+        rule: Option<Rule>,
+        /// The kinds that the second of these terms may have, where it is a key.
+        keys: &'static [Kind],
+    }
+    Plain   { number: 1, word: "plain",   inverse: None,                rule: None, keys: &[] }
+    Public  { number: 2, word: "public",  inverse: Some(Kind::Private), rule: None, keys: &[] }
+    Private { number: 3, word: "private", inverse: Some(Kind::Public),  rule: None, keys: &[] }
+    Pair    { number: 4, word: Rule::Pair.word(), inverse: None, rule: Some(Rule::Pair), keys: &[] }
+    Enc     { number: 5, word: Rule::Enc.word(),  inverse: None, rule: Some(Rule::Enc),
+              keys: &[Kind::Plain] }
+    Enca    { number: 6, word: Rule::Enca.word(), inverse: None, rule: Some(Rule::Enca),
+              keys: &[Kind::Public, Kind::Private] }
+}
+
+impl Kind {
+    pub fn from_number(number: u8) -> Option<Kind> {
+        Kind::ALL.into_iter().find(|kind| kind.number() == number)
+    }
+
+    /// The kind of the compounds that the rule builds.
+    pub fn built_by(rule: Rule) -> Option<Kind> {
+        Kind::ALL.into_iter().find(|kind| kind.rule() == Some(rule))
+    }
+
+    /// The kind of the compounds of which a term of this kind may be the key.
+    pub fn locked_by(key: Kind) -> Option<Kind> {
+        Kind::ALL.into_iter().find(|kind| kind.keys().contains(&key))
+    }
+
+    pub fn is_atom(self) -> bool {
+        self.rule().is_none()
+    }
+
+    pub fn atoms() -> Vec<Kind> {
+        Kind::ALL.into_iter().filter(|kind| kind.is_atom()).collect()
+    }
+
+    /// The kinds of compound, each with the rule that builds it.
+    pub fn compounds() -> Vec<(Kind, Rule)> {
+        Kind::ALL.into_iter().filter_map(|kind| Some((kind, kind.rule()?))).collect()
+    }
+
+    /// The kinds of key that have an inverse, each with the kind of the inverse.
+    pub fn inverses() -> Vec<(Kind, Kind)> {
+        Kind::ALL.into_iter().filter_map(|kind| Some((kind, kind.inverse()?))).collect()
+    }
+}

@@ -1,0 +1,22 @@
+//! The reasons of refusal.
+
+table! {
+    /// The refusals.
+    Reason: ReasonRow {
+        number: u32,
+        word: &'static str,
+    }
+    Contents    { number: 1,  word: "contents" }
+    Count       { number: 2,  word: "count" }
+    Term        { number: 3,  word: "term" }
+    Knowledge   { number: 4,  word: "knowledge" }
+    Claim       { number: 5,  word: "claim" }
+    Step        { number: 6,  word: "step" }
+    Unfounded   { number: 7,  word: "unfounded" }
+    Reachable   { number: 8,  word: "reachable" }
+    NoSecondWay { number: 9,  word: "no second way" }
+    Undone      { number: 10, word: "undone" }
+    Page        { number: 11, word: "page" }
+    NoSuchTerm  { number: 12, word: "no such term" }
+    Program     { number: 13, word: "program" }
+}

@@ -1,0 +1,52 @@
+//! The tables: what names a row names no other, and samples that are to be refused are in no table.
+
+use std::collections::HashSet;
+use std::fmt::Debug;
+use std::hash::Hash;
+
+use checker_tests::tables::{unclaimed, Body, Kind, Reason, Rule, Test, Way};
+
+fn assert_distinct<T: Eq + Hash + Debug>(column: impl IntoIterator<Item = T>) {
+    let mut seen = HashSet::new();
+    for value in column {
+        let shown = format!("{value:?}");
+        assert!(seen.insert(value), "{shown} twice");
+    }
+}
+
+#[test]
+fn a_row_has_its_own_number_letter_and_word() {
+    assert_distinct(Body::ALL.map(Body::letter));
+    assert_distinct(Body::ALL.map(Body::word));
+    assert_distinct(Kind::ALL.map(Kind::number));
+    assert_distinct(Kind::ALL.map(Kind::word));
+    assert_distinct(Rule::ALL.map(Rule::number));
+    assert_distinct(Rule::ALL.map(Rule::word));
+    assert_distinct(Way::ALL.map(Way::letter));
+    assert_distinct(Test::ALL.map(Test::letter));
+    assert_distinct(Test::ALL.map(Test::word));
+    assert_distinct(Reason::ALL.map(Reason::number));
+    assert_distinct(Reason::ALL.map(Reason::word));
+}
+
+#[test]
+fn the_columns_agree() {
+    for (kind, inverse) in Kind::inverses() {
+        assert!(kind.is_atom() && inverse.inverse() == Some(kind), "{kind:?}");
+    }
+    for (kind, rule) in Kind::compounds() {
+        assert!(rule.builds() && Kind::built_by(rule) == Some(kind), "{kind:?}");
+        assert!(kind.keys().is_empty() || rule.operands() == 2, "{kind:?}");
+    }
+    for (rule, taking) in Rule::takings() {
+        assert!(taking.from.builds() && taking.part < taking.from.operands(), "{rule:?}");
+    }
+}
+
+#[test]
+fn unclaimed_samples_are_in_no_table() {
+    assert!(unclaimed::KINDS.iter().all(|&number| Kind::from_number(number).is_none()));
+    assert!(unclaimed::RULES.iter().all(|&number| Rule::from_number(number).is_none()));
+    assert!(unclaimed::WAYS.iter().all(|&letter| Way::from_letter(letter).is_none()));
+    assert!(unclaimed::TESTS.iter().all(|&letter| Test::from_letter(letter).is_none()));
+}
