@@ -44,13 +44,6 @@ use Rattle.conditions.proofs.Program.{lowest-known, program-steps, valu
 abbrev InDerivation : List ℕ → Head → Term → Term → Term → Type 0
 InDerivation s h p q t = (i : ℕ) × (i < steps s) × (h ≡ rule s i) × (p ≡ first s i) × (q ≡ second s i) × (t ≡ concluded s i)
 
--- an atom that is fresh, and the inverse of no key that is a part, has a fresh inverse
-inverse-fresh : (K : Term → Type 0) (κ : Kind) (n : ℕ) → ((t : Term) → K t → Part (atom κ n) t → ⊥) →
-    ((t : Term) → K t → (k : Term) → Part k t → isKey k → atom κ n ≡ inverse k → ⊥) → (t : Term) → K t → Part (inverse (atom κ n)) t → ⊥
-inverse-fresh K plain n f g t k p = f t k p
-inverse-fresh K public n f g t k p = g t k (atom private n) p tt refl
-inverse-fresh K private n f g t k p = g t k (atom public n) p tt refl
-
 -- steps with another rule or another premise set are not alike in rule and premises
 unlike : (s : List ℕ) (i j : ℕ) → Differs s i j → rule s i ≡ rule s j → first s i ≡ first s j → second s i ≡ second s j → ⊥
 unlike s i j (inl f) a b d = f a
@@ -173,8 +166,8 @@ module _ (s : List ℕ) (bytes : Bytes s) (w : WellFormed s) (c : FiveConditions
           sound = λ h p q t m. rw (m .2, m .3, m .4, m .5) (shaped (m .0) (m .1) .step);
           messages = λ t k. rw (k .2) (claim .read .messages (entryAt s (k .0)) (claim .read .entry-below (k .0) (k .1)));
           w-atom = (_, name, refl);
-          w-fresh = wrong .fresh;
-          w-inverse-fresh = inverse-fresh (InKnowledge s) _ name (wrong .fresh) (wrong .inverseFresh);
+          w-fresh = wrong .fresh .apart;
+          w-inverse-fresh = wrong .fresh .inverseApart;
         }
 
     executed : (i : ℕ) → i < steps s → {v u : Term} → May (first s i) v → May (second s i) u → (single (rule s i) ≡ true → v ≡ u) →

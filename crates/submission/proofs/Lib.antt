@@ -1,6 +1,7 @@
 pub mod Claims
 pub mod Contents
 pub mod Examples
+pub mod FreshLaws
 pub mod Inverse
 pub mod Listed
 pub mod Passing

@@ -1,4 +1,5 @@
 pub mod Built
+pub mod FreshLaws
 pub mod Guess
 pub mod Marks
 pub mod Reach

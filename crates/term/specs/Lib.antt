@@ -1,4 +1,5 @@
 pub mod Code
+pub mod Fresh
 pub mod Reduce
 pub mod Relation
 pub mod Rule

@@ -1,0 +1,16 @@
+-- Freshness for the knowledge, as a test.
+use mathlib.Core.Bool.{Bool, _&&_, not}
+use mathlib.Core.List.{List}
+use Rattle.base.specs.First.{any}
+use Prim.Native.Nat.{ℕ}
+use Rattle.term.specs.Term.{Term, inverse}
+use Rattle.term.specs.Fresh.{isPart}
+use Rattle.submission.specs.Record.{entries, entryAt, term}
+
+-- x is part of a message in the knowledge
+unfoldable pub isKnownPart : List ℕ → Term → Bool
+isKnownPart s x = any (λ r. isPart x (term s (entryAt s r))) (entries s)
+
+-- neither w nor its inverse is
+unfoldable pub isFresh : List ℕ → Term → Bool
+isFresh s w = not (isKnownPart s w) && not (isKnownPart s (inverse w))
