@@ -11,10 +11,11 @@ use Rattle.base.specs.First.{first, firstFrom, any}
 use Rattle.base.specs.Grow.{grow}
 use Rattle.term.specs.Table.{decoded}
 use Rattle.term.specs.Reduce.{op, cancelled, parted, paired, match?, fits?, isKey?}
-use Rattle.term.specs.Rule.{headOf, wordOf, hasOne}
+use Rattle.term.specs.Kind.{shapeOf}
+use Rattle.term.specs.Rule.{headOf, wordOf, hasOne, ruleTakesApart}
 use Rattle.base.specs.Answer.{Answer, done, refused}
 use Rattle.submission.specs.Contents.{start, badContents}
-use Rattle.submission.specs.Record.{shapeOf, recordAt, term, areInverse}
+use Rattle.submission.specs.Record.{recordAt, term, areInverse}
 use Rattle.submission.specs.Way.{wayOf}
 use Rattle.submission.specs.Check.{badTerm, badKnowledge, goodClaim, checks1to4, checks1to5}
 use Rattle.derivation.specs.Register.{registerTerm}
@@ -290,7 +291,7 @@ want e = e .wanted
 
 -- the one computed fact
 pub table-right : map got table ≡ map want table
-unfolding first firstFrom any grow decoded op cancelled parted paired match? fits? isKey? headOf wordOf hasOne start badContents shapeOf recordAt term areInverse wayOf badTerm badKnowledge goodClaim checks1to4 checks1to5 registerTerm secondAt badStep unfounded checkSteps builtWithin round rounds entryMarks isDeducible relationOf instructionBytes bytesOf instructionAt testAt badInstruction badTest badProgram guessed initial executed registers signals signal runAnswer reachable samePremises undoesStep undone checks1to10 checkAnswer claimTest lowest instruction program pageChecked digits stepLine testLine stepLines answerText verdictText Dec·and ℕ-discrete
+unfolding first firstFrom any grow decoded op cancelled parted paired match? fits? isKey? headOf wordOf hasOne ruleTakesApart start badContents shapeOf recordAt term areInverse wayOf badTerm badKnowledge goodClaim checks1to4 checks1to5 registerTerm secondAt badStep unfounded checkSteps builtWithin round rounds entryMarks isDeducible relationOf instructionBytes bytesOf instructionAt testAt badInstruction badTest badProgram guessed initial executed registers signals signal runAnswer reachable samePremises undoesStep undone checks1to10 checkAnswer claimTest lowest instruction program pageChecked digits stepLine testLine stepLines answerText verdictText Dec·and ℕ-discrete
 table-right = refl
 
 -- what it says of each example

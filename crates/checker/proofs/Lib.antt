@@ -1,5 +1,6 @@
 pub mod Encoding
 pub mod Examples
+pub mod FromCalls
 pub mod Long
 pub mod Printing
 pub mod PromiseExamples

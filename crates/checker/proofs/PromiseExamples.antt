@@ -16,7 +16,8 @@ use Rattle.term.specs.Table.{decoded}
 use Rattle.base.specs.Answer.{done}
 use Rattle.base.specs.Bytes.{Bytes}
 use Rattle.submission.specs.Contents.{start}
-use Rattle.submission.specs.Record.{guess, nameAt, term, recordAt, shapeOf}
+use Rattle.submission.specs.Record.{guess, nameAt, term, recordAt}
+use Rattle.term.specs.Kind.{shapeOf}
 use Rattle.program.specs.Program.{programLength}
 use Rattle.submission.specs.Fresh.{isKnownPart, isFresh}
 use Rattle.submission.proofs.FreshLaws.{says-fresh}
@@ -25,7 +26,8 @@ use Rattle.conditions.specs.Page.{pageChecked}
 use Rattle.conditions.specs.Wrong.{WrongGuess}
 use Rattle.checker.proofs.Examples.{Example, m1, m3, m8, got, want, example-right}
 use Rattle.conditions.proofs.Acceptance.{accepted-iff}
-use Rattle.conditions.proofs.Promise.{KeptPromise, demand-3}
+use Rattle.conditions.specs.Demand.{KeptPromise}
+use Rattle.conditions.proofs.Promise.{demand-3}
 
 -- ---- the hypotheses as tests
 areBytes : List ℕ → Bool
@@ -52,7 +54,7 @@ is-wrong s name e =
 abbrev pub Shown : Example → ℕ → ℕ → Type 0
 Shown e n name =
     (page : List ℕ) → length page ≡ 388 →
-    KeptPromise (e .bytes) page n × WrongGuess (e .bytes) name × (runAnswer (e .bytes) name (take (programLength n) (pageChecked (e .bytes) page)) ≡ done 0)
+    KeptPromise (e .bytes) page n (pageChecked (e .bytes) page) × WrongGuess (e .bytes) name × (runAnswer (e .bytes) name (take (programLength n) (pageChecked (e .bytes) page)) ≡ done 0)
 
 -- it is enough that the example is accepted with a shorter page, and that the tests say so
 shown : (e : Example) (n name : ℕ) → got e ≡ want e → e .wanted .answer ≡ done n → e .length ≤ 388 →
@@ -63,7 +65,7 @@ shown e n name g a l t page f =
     let b : Bytes s = are-bytes s u in
     let z : WrongGuess s name = is-wrong s name v in
     let (m, w, c, k) = accepted-iff s b (e .length) n .0 (ap (λ o. o .answer) g ∙ a) in
-    let p : KeptPromise s page n = demand-3 s page b n (accepted-iff s b (length page) n .1 (m, w, c, omega arith)) in
+    let p : KeptPromise s page n (pageChecked s page) = demand-3 s page b n (accepted-iff s b (length page) n .1 (m, w, c, omega arith)) in
     (p, z, p .wrong name z)
 
 -- one example for each way

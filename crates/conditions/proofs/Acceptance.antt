@@ -18,6 +18,7 @@ use Rattle.derivation.proofs.Founded.{Sound, sound, steps-pass}
 use Rattle.program.specs.Program.{programLength}
 use Rattle.conditions.specs.Check.{reachable, check8, hasSecondWay, check9, undone, check10, check11, checks1to10, checkAnswer}
 use Rattle.conditions.specs.Condition.{WellFormed, FiveConditions}
+use Rattle.conditions.specs.Demand.{Demand2}
 use Rattle.conditions.proofs.AcceptanceConditions.{founded-terms, reachable-iff, second-way-iff, undone-iff}
 
 -- what the checks after the fifth say of term numbers, where all pass
@@ -38,29 +39,29 @@ pass-8-to-10 s =
     )
 
 -- the checks in their order: well formed, clear, and page enough
-all-pass : (s : List ℕ) (length n : ℕ) → (checkAnswer s length ≡ done n) ↔ ((n ≡ steps s) × WellFormed s × Clear s × (programLength (steps s) ≤ length))
+all-pass : (s : List ℕ) (room n : ℕ) → (checkAnswer s room ≡ done n) ↔ ((n ≡ steps s) × WellFormed s × Clear s × (programLength (steps s) ≤ room))
 unfolding checkAnswer checks1to10
-all-pass s length n = (down, up)
+all-pass s room n = (down, up)
   where
-    page : (check11 s length ≡ passes) ↔ (programLength (steps s) ≤ length)
+    page : (check11 s room ≡ passes) ↔ (programLength (steps s) ≤ room)
     page = Iff·trans (if-passes _ _ _) (ltb-false _ _, le-ltb _ _)
 
-    down : checkAnswer s length ≡ done n → (n ≡ steps s) × WellFormed s × Clear s × (programLength (steps s) ≤ length)
+    down : checkAnswer s room ≡ done n → (n ≡ steps s) × WellFormed s × Clear s × (programLength (steps s) ≤ room)
     down e =
         let (p, m) = answered-done _ (steps s) n .0 e in
-        let (t, q) = then-passes (checks1to10 s) (check11 s length) .0 p in
+        let (t, q) = then-passes (checks1to10 s) (check11 s room) .0 p in
         let (r, u) = then-passes (checks1to5 s) _ .0 t in
         let (f, v) = then-passes (checkSteps s) _ .0 u in
         let each = steps-pass s .0 f in
         let w = pass-8-to-10 s .0 v in
         (sym m, record { read = r; shaped = λ i l. each i l .0 }, record { founded = λ i l. each i l .1; hidden = w .0; secondWay = w .1; kept = w .2 }, page .0 q)
 
-    up : (n ≡ steps s) × WellFormed s × Clear s × (programLength (steps s) ≤ length) → checkAnswer s length ≡ done n
+    up : (n ≡ steps s) × WellFormed s × Clear s × (programLength (steps s) ≤ room) → checkAnswer s room ≡ done n
     up (m, g, c, l) =
         let v = pass-8-to-10 s .1 (c .hidden, c .secondWay, c .kept) in
         let f = steps-pass s .1 (λ i b. (g .shaped i b, c .founded i b)) in
         let t = then-passes (checks1to5 s) _ .1 (g .read, then-passes (checkSteps s) _ .1 (f, v)) in
-        answered-done _ (steps s) n .1 (then-passes (checks1to10 s) (check11 s length) .1 (t, page .1 l), sym m)
+        answered-done _ (steps s) n .1 (then-passes (checks1to10 s) (check11 s room) .1 (t, page .1 l), sym m)
 
 -- the clear submissions are those that meet the conditions
 clear-iff : (s : List ℕ) → Bytes s → WellFormed s → Clear s ↔ FiveConditions s
@@ -87,7 +88,6 @@ clear-iff s b w =
 -- "a submission is well formed when it passes checks 1 to 5 and every step passes check 6; it has page enough when row 11 doesn't
 -- hold. An acceptance carries N": checking accepts with n exactly when n is the count of steps, the submission is well formed and
 -- meets the five conditions, and the page has 3N+4 bytes.
-pub accepted-iff : (s : List ℕ) → Bytes s → (length n : ℕ) →
-    (checkAnswer s length ≡ done n) ↔ ((n ≡ steps s) × WellFormed s × FiveConditions s × (programLength (steps s) ≤ length))
-accepted-iff s b length n =
-    Iff·trans (all-pass s length n) (λ (m, w, c, l). (m, w, clear-iff s b w .0 c, l), λ (m, w, f, l). (m, w, clear-iff s b w .1 f, l))
+pub accepted-iff : Demand2
+accepted-iff s b room n =
+    Iff·trans (all-pass s room n) (λ (m, w, c, l). (m, w, clear-iff s b w .0 c, l), λ (m, w, f, l). (m, w, clear-iff s b w .1 f, l))

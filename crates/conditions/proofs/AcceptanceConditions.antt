@@ -9,11 +9,10 @@ use Prim.Native.Nat.{ℕ, _<_, _≤_}
 use native.Mathlib.Omega.{arith}
 use lib.Dec.{eqb}
 use Rattle.base.proofs.Says.{Says, says-eqb, says-and, says-or, says-not, denies, or-false, and-false}
-use Rattle.term.specs.Term.{head?, Side, left, right, Head, pair, part, encrypt, decrypt, Term}
+use Rattle.term.specs.Term.{Term}
 use Rattle.term.specs.Rule.{headOf}
 use Rattle.term.specs.Step.{Deducible, Undoes}
-use Rattle.term.proofs.Reduce.{says-test}
-use Rattle.term.proofs.Rule.{head-inj}
+use Rattle.term.proofs.Rule.{head-inj, says-takes-apart}
 use Rattle.submission.specs.Record.{terms, steps, ruleAt, pAt, conclusionAt, entryAt, guess, verifying, wayAt, companion, term, InKnowledge}
 use Rattle.submission.specs.Way.{Way, another-step, at-start, inverse-key, wayOf, row}
 use Rattle.submission.proofs.Listed.{Claimed, InRange}
@@ -22,8 +21,8 @@ use Rattle.derivation.specs.Step.{secondAt, unfounded}
 use Rattle.derivation.proofs.Register.{KnownNumber, says-known}
 use Rattle.derivation.proofs.Founded.{Sound, founded-iff}
 use Rattle.deduction.specs.Deduce.{entryMarks, isDeducible}
-use Rattle.deduction.proofs.Exact.{deducible-iff}
-use Rattle.conditions.specs.Check.{reachable, isPremise, samePremises, hasSecondWay, undoes, undoesStep, companionUndoes, undone}
+use Rattle.deduction.proofs.theory.Exactness.{deducible-iff}
+use Rattle.conditions.specs.Check.{reachable, isPremise, samePremises, hasSecondWay, undoesStep, companionUndoes, undone}
 use Rattle.conditions.specs.Condition.{rule, first, second, concluded, Known, Premise, Differs, SecondWay, UndoesNone}
 
 -- before step 0 the knowledge and the guess are known
@@ -122,28 +121,17 @@ module _ {s : List ℕ} (c : Claimed s) (sound : (i : ℕ) → i < steps s → S
   second-way-iff = rw (c .has-way) (says-way (c .way) (c .in-range))
 
   -- ---- condition 5
-  says-undoes : (h h′ : Head) (p t p′ t′ : ℕ) → p < terms s → t < terms s → p′ < terms s → t′ < terms s →
-      Says (undoes h p t h′ p′ t′) (Undoes h (term s p) (term s t) h′ (term s p′) (term s t′))
-  says-undoes pair h′ p t p′ t′ a b a′ b′ =
-      Iff·trans (says-and _ _ (says-or _ _ (says-test (head? h′ (part left))) (says-test (head? h′ (part right)))) (says-same p′ t a′ b))
-      (λ (u, e). ⊎-elim (λ q. (left, q, e)) (λ q. (right, q, e)) u, λ (i, q, e). (side i q, e))
-    where
-      side : (i : Side) → h′ ≡ part i → (h′ ≡ part left) ⊎ (h′ ≡ part right)
-      side left q = inl q
-      side right q = inr q
-  says-undoes (part i) h′ p t p′ t′ a b a′ b′ = says-and _ _ (says-test (head? h′ pair)) (says-same t′ p b′ a)
-  says-undoes (encrypt k) h′ p t p′ t′ a b a′ b′ = says-and _ _ (says-test (head? h′ (decrypt k))) (says-same p′ t a′ b)
-  says-undoes (decrypt k) h′ p t p′ t′ a b a′ b′ = says-and _ _ (says-test (head? h′ (encrypt k))) (says-same t′ p b′ a)
+  says-undoes : (j i : ℕ) → j < steps s → i < steps s → Says (undoesStep s j i) (Undoes (rule s j) (first s j) (concluded s j) (rule s i) (first s i) (concluded s i))
+  unfolding undoesStep
+  says-undoes j i m l =
+      let x = sound j m in
+      let y = sound i l in
+      says-or _ _
+      (says-and _ _ (says-takes-apart _ _ (x .rule-below) (y .rule-below)) (says-same _ _ (x .p-below) (y .conclusion-below)))
+      (says-and _ _ (says-takes-apart _ _ (y .rule-below) (x .rule-below)) (says-same _ _ (y .p-below) (x .conclusion-below)))
 
   undoes-none : (j : ℕ) → j < steps s → ((i : ℕ) → i < steps s → undoesStep s j i ≡ false) ↔ UndoesNone s j
-  unfolding undoesStep
-  undoes-none j m = (λ f i l. w i l .0 (f i l), λ f i l. w i l .1 (f i l))
-    where
-      w : (i : ℕ) → i < steps s → (undoesStep s j i ≡ false) ↔ (Undoes (rule s j) (first s j) (concluded s j) (rule s i) (first s i) (concluded s i) → ⊥)
-      w i l =
-          let x = sound j m in
-          let y = sound i l in
-          denies _ (says-undoes (rule s j) (rule s i) _ _ _ _ (x .p-below) (x .conclusion-below) (y .p-below) (y .conclusion-below))
+  undoes-none j m = (λ f i l. denies _ (says-undoes j i m l) .0 (f i l), λ f i l. denies _ (says-undoes j i m l) .1 (f i l))
 
   -- the companion counts in way a only
   companion-undoes : (w : Way) → InRange s (row w .companion) (companion s) → ((i : ℕ) → i < steps s → companionUndoes s (some w) i ≡ false) ↔ (some w ≡ some another-step → UndoesNone s (companion s))

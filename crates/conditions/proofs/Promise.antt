@@ -13,7 +13,7 @@ use Rattle.machine.specs.Run.{signal, runAnswer}
 use Rattle.conditions.specs.Check.{checkAnswer}
 use Rattle.conditions.specs.Condition.{WellFormed, FiveConditions}
 use Rattle.conditions.specs.Page.{program, pageChecked}
-use Rattle.conditions.specs.Wrong.{WrongGuess}
+use Rattle.conditions.specs.Demand.{Demand3, EveryGoodAccepted}
 use Rattle.conditions.proofs.Acceptance.{accepted-iff}
 use Rattle.conditions.proofs.Program.{program-bytes}
 use Rattle.conditions.proofs.Signal.{program-good, right-signal, wrong-signal}
@@ -30,19 +30,8 @@ unfolding runAnswer
 run-program s b w c name = rw (w .read, program-good s b w c)
 
 -- ---- Demand 3
--- what is promised of the page after an acceptance that carries n
-pub record KeptPromise (s page : List ℕ) (n : ℕ) : Type 0 where
-  -- "the program is what checking wrote on the page: three bytes for each step in the count that the acceptance carries, and four more"
-  pub program : take (programLength n) (pageChecked s page) ≡ bytesOf (program s)
-  -- "An acceptance .. changes the first 3N+4 bytes of the page only."
-  pub rest : drop (programLength n) (pageChecked s page) ≡ drop (programLength n) page
-  -- "There run gets these bytes, the same submission and a name: that of the submission's own guess, which is the right one,
-  pub right : runAnswer s (nameAt s (guess s)) (take (programLength n) (pageChecked s page)) ≡ done 1
-  -- or that of a wrong guess, with one and the same program for all names."
-  pub wrong : (name : ℕ) → WrongGuess s name → runAnswer s name (take (programLength n) (pageChecked s page)) ≡ done 0
-
 -- every acceptance keeps the promise
-pub demand-3 : (s page : List ℕ) → Bytes s → (n : ℕ) → checkAnswer s (length page) ≡ done n → KeptPromise s page n
+pub demand-3 : Demand3
 demand-3 s page b n e =
     let (f, w, c, l) = accepted-iff s b (length page) n .0 e in
     let g : length (bytesOf (program s)) ≡ programLength n = program-bytes s ∙ ap programLength (sym f) in
@@ -56,5 +45,5 @@ demand-3 s page b n e =
     }
 
 -- and every well-formed submission that meets the five conditions, with page enough, is accepted
-pub every-good-accepted : (s : List ℕ) → Bytes s → (length : ℕ) → WellFormed s → FiveConditions s → programLength (steps s) ≤ length → checkAnswer s length ≡ done (steps s)
-every-good-accepted s b length w c l = accepted-iff s b length (steps s) .1 (refl, w, c, l)
+pub every-good-accepted : EveryGoodAccepted
+every-good-accepted s b room w c l = accepted-iff s b room (steps s) .1 (refl, w, c, l)

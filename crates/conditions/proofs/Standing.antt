@@ -13,14 +13,14 @@ use Rattle.submission.specs.Way.{wayOf}
 use Rattle.submission.specs.Check.{checks1to5}
 use Rattle.submission.specs.Code.{IsClaim}
 use Rattle.base.proofs.AnswerLaws.{then-passes, if-passes}
-use Rattle.submission.proofs.Passing.{limited, body-passes}
+use Rattle.submission.proofs.PassedChecks.{limited, body-passes}
 use Rattle.submission.proofs.Listed.{Claimed, claimed}
 use Rattle.derivation.specs.declared.Step.{Step}
 use Rattle.derivation.specs.Step.{secondAt, checkSteps}
 use Rattle.derivation.specs.Code.{IsStep}
 use Rattle.derivation.proofs.Founded.{Sound, sound, steps-pass}
 use Rattle.deduction.specs.Deduce.{entryMarks, isDeducible}
-use Rattle.deduction.specs.Code.{Read}
+use Rattle.deduction.specs.Code.{TableRead}
 use Rattle.conditions.specs.Check.{reachable, hasSecondWay, check8, check9, check10, checks1to10}
 use Rattle.conditions.specs.Code.{Founded, Acceptable}
 
@@ -34,7 +34,7 @@ module _ {s : List ℕ} (h : Founded s) where
   pub founded-claimed : Claimed s
   founded-claimed = claimed s (h .bytes) (h .read)
 
-  pub founded-read : Read s
+  pub founded-read : TableRead s
   founded-read = record { bytes = h .bytes; passed = body-passes s (h .read) }
 
   pub founded-limited : Limited s

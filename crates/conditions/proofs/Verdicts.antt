@@ -20,7 +20,7 @@ use Rattle.submission.specs.Check.{checks1to5}
 use Rattle.base.specs.Code.{checkOf}
 use Rattle.base.proofs.AnswerLaws.{if-passes}
 use Rattle.base.proofs.StageLaws.{bytes, stage-passes}
-use Rattle.submission.proofs.Passing.{body-passes, limited}
+use Rattle.submission.proofs.PassedChecks.{body-passes, limited}
 use Rattle.derivation.specs.declared.Checked.{Checked as StepsRun}
 use Rattle.derivation.specs.Register.{written}
 use Rattle.derivation.specs.Code.{Registered, StepsChecked}

@@ -5,8 +5,7 @@ use mathlib.Core.Option.{Option, none, some}
 use Prim.Native.Nat.{ℕ}
 use lib.Dec.{eqb, ltb}
 use Rattle.base.specs.First.{first}
-use Rattle.term.specs.Term.{head?, test, Head, pair, part, encrypt, decrypt, left, right}
-use Rattle.term.specs.Rule.{headOf}
+use Rattle.term.specs.Rule.{ruleTakesApart}
 use Rattle.base.specs.Answer.{Answer, done, Check, failsAt, failsIf, andThen, answered}
 use Rattle.submission.specs.Record.{steps, ruleAt, pAt, conclusionAt, verifying, wayAt, companion, areInverse}
 use Rattle.submission.specs.Way.{Way, another-step, at-start, inverse-key, wayOf, row}
@@ -44,16 +43,14 @@ hasSecondWay s (some inverse-key) = areInverse s (conclusionAt s (verifying s)) 
 abbrev pub check9 : List ℕ → Check
 check9 s = failsIf (not (hasSecondWay s (wayOf (wayAt s)))) 9 (verifying s)
 
--- 10 undone: "condition 5 broken", place "lowest undone step". A step of the rule h from p to t undoes one of h′ from p′ to t′.
-abbrev pub undoes : Head → ℕ → ℕ → Head → ℕ → ℕ → Bool
-undoes pair p t h′ p′ t′ = (test (head? h′ (part left)) || test (head? h′ (part right))) && eqb p′ t
-undoes (part i) p t h′ p′ t′ = test (head? h′ pair) && eqb t′ p
-undoes (encrypt c) p t h′ p′ t′ = test (head? h′ (decrypt c)) && eqb p′ t
-undoes (decrypt c) p t h′ p′ t′ = test (head? h′ (encrypt c)) && eqb t′ p
+-- a step of the rule r on the first premise p takes apart the very term t that a step of the rule b concludes
+abbrev pub dismantles : ℕ → ℕ → ℕ → ℕ → Bool
+dismantles r p b t = ruleTakesApart r b && eqb p t
 
--- step j undoes step i
+-- 10 undone: "condition 5 broken", place "lowest undone step". Step j undoes step i.
 unfoldable pub undoesStep : List ℕ → ℕ → ℕ → Bool
-undoesStep s j i = undoes (headOf (ruleAt s j)) (pAt s j) (conclusionAt s j) (headOf (ruleAt s i)) (pAt s i) (conclusionAt s i)
+undoesStep s j i =
+    dismantles (ruleAt s j) (pAt s j) (ruleAt s i) (conclusionAt s i) || dismantles (ruleAt s i) (pAt s i) (ruleAt s j) (conclusionAt s j)
 
 -- in way a the companion must undo nothing either
 abbrev pub companionUndoes : List ℕ → Option Way → ℕ → Bool
@@ -68,11 +65,11 @@ check10 s = failsAt 10 (first (undone s) (steps s))
 
 -- 11 page: "page under 3N+4 bytes", place "length needed"
 abbrev pub check11 : List ℕ → ℕ → Check
-check11 s length = failsIf (ltb length (programLength (steps s))) 11 (programLength (steps s))
+check11 s room = failsIf (ltb room (programLength (steps s))) 11 (programLength (steps s))
 
 unfoldable pub checks1to10 : List ℕ → Check
 checks1to10 s = andThen (checks1to5 s) (andThen (checkSteps s) (andThen (check8 s) (andThen (check9 s) (check10 s))))
 
 -- the answer of checking a submission with a page of this length
 unfoldable pub checkAnswer : List ℕ → ℕ → Answer
-checkAnswer s length = answered (andThen (checks1to10 s) (check11 s length)) (done (steps s))
+checkAnswer s room = answered (andThen (checks1to10 s) (check11 s room)) (done (steps s))

@@ -4,7 +4,6 @@ use mathlib.Core.Bool.{Bool, true, false, _&&_, _||_, not}
 use mathlib.Core.List.{List}
 use Prim.Native.Nat.{ℕ, _<_}
 use lib.Dec.{eqb}
-use Rattle.term.specs.Term.{head?, test, Head, pair, part, encrypt, decrypt, left, right}
 use Rattle.base.specs.Answer.{passes}
 use Rattle.base.specs.Bytes.{Bytes}
 use Rattle.submission.specs.Record.{steps, ruleAt, conclusionAt, verifying, companion}
@@ -29,13 +28,6 @@ pub record Acceptable (s : List ℕ) : Type 0 where
 abbrev pub otherWay : List ℕ → ℕ → ℕ → Bool
 otherWay s i j =
     eqb (conclusionAt s j) (conclusionAt s i) && (not (eqb (ruleAt s i) (ruleAt s j)) || not (samePremises s i j))
-
--- the head h takes apart what the head b builds
-abbrev pub takesApart : Head → Head → Bool
-takesApart h pair = test (head? h (part left)) || test (head? h (part right))
-takesApart h (part i) = false
-takesApart h (encrypt c) = test (head? h (decrypt c))
-takesApart h (decrypt c) = false
 
 -- the register that a test names can be found: its step is one of the derivation, or its term is known after the last step
 abbrev pub Held : List ℕ → Operand → Type 0

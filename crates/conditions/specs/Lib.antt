@@ -2,5 +2,6 @@ pub mod Calls
 pub mod Check
 pub mod Code
 pub mod Condition
+pub mod Demand
 pub mod Page
 pub mod Wrong

@@ -1,11 +1,12 @@
 // Conditions 3 to 5: checks 8 to 10, in this order.
 use base::Stage;
 use derivation::Registers;
+use derivation::Step;
 use submission::Claim;
 use submission::Way;
+use term::rules;
 ghost use mathlib.Core.Path.{_≡_};
 ghost use mathlib.Core.Bool.{_&&_};
-ghost use Rattle.term.specs.Rule.{headOf};
 ghost use Rattle.submission.specs.Contents.{Limited};
 ghost use Rattle.submission.specs.Record.{steps, pAt, wayAt, areInverse};
 ghost use Rattle.submission.specs.Way.{wayOf};
@@ -15,8 +16,8 @@ ghost use Rattle.submission.specs.Code.{IsClaim};
 ghost use Rattle.derivation.specs.Register.{written, isKnown};
 ghost use Rattle.derivation.specs.Step.{secondAt};
 ghost use Rattle.derivation.specs.Code.{Registered};
-ghost use Rattle.conditions.specs.Check.{reachable, isPremise, samePremises, hasSecondWay, undoesStep, undone, check8, check9, check10};
-ghost use Rattle.conditions.specs.Code.{Founded, takesApart, otherWay};
+ghost use Rattle.conditions.specs.Check.{reachable, isPremise, samePremises, hasSecondWay, dismantles as dismantlesBy, undoesStep, undone, check8, check9, check10};
+ghost use Rattle.conditions.specs.Code.{Founded, otherWay};
 
 // Condition 3 broken: both premises of the verifying step are deducible from the knowledge, without the guess.
 fn is_reachable(s: &[u8], claim: Claim) -> bool
@@ -25,7 +26,8 @@ fn is_reachable(s: &[u8], claim: Claim) -> bool
     ensures { λ r. ⌜ r ≡ reachable (now (s .entry)) ⌝ }
 {
     let step = derivation::step_at(s, claim.step);
-    deduction::are_deducible(s, step.p, derivation::second_of(step))
+    let start = deduction::knowledge_marks(s);
+    deduction::are_deducible(s, start, step.p, derivation::second_of(step))
 }
 
 // Check 8.
@@ -143,16 +145,14 @@ fn check_second_way(s: &[u8], registers: Registers, claim: Claim) -> Stage
     }
 }
 
-// Whether the rule `taker` takes apart what the rule `builder` builds. Rules are 0 to 6.
-fn takes_apart(taker: u8, builder: u8) -> bool
-    ensures { λ r. ⌜ r ≡ takesApart (headOf taker) (headOf builder) ⌝ }
+// Whether a takes apart the very term that b concludes.
+fn dismantles(a: Step, b: Step) -> bool
+    ensures { λ r. ⌜ r ≡ dismantlesBy (a .rule) (a .p) (b .rule) (b .conclusion) ⌝ }
 {
-    match builder {
-        0 => taker == 1 || taker == 2,
-        3 => taker == 4,
-        5 => 6 <= taker,
-        _ => false,
+    if rules::takes_apart(a.rule, b.rule) {
+        return a.p == b.conclusion;
     }
+    false
 }
 
 // Whether step j undoes step i: one of them takes apart the very term that the other builds.
@@ -161,13 +161,10 @@ fn undoes_step(s: &[u8], j: u8, i: u8) -> bool
 {
     let a = derivation::step_at(s, j);
     let b = derivation::step_at(s, i);
-    if takes_apart(b.rule, a.rule) {
-        return b.p == a.conclusion;
+    if dismantles(a, b) {
+        return true;
     }
-    if takes_apart(a.rule, b.rule) {
-        return b.conclusion == a.p;
-    }
-    false
+    dismantles(b, a)
 }
 
 // Whether the verifying step undoes step i, or in way a the companion does.

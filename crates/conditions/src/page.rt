@@ -5,6 +5,7 @@ use program::Program;
 use program::Test;
 use submission::Claim;
 use submission::Operand;
+use term::rules;
 ghost use mathlib.Core.Path.{_≡_};
 ghost use mathlib.Core.List.{_++_};
 ghost use Prim.Native.Nat.{_≤_, _<_};
@@ -29,7 +30,7 @@ fn instruction_of(s: &[u8], registers: Registers, i: u8) -> Instruction
     let step = derivation::step_at(s, i);
     let rule = step.rule;
     let left = registers.lowest(step.p);
-    if submission::has_one(rule) {
+    if rules::has_one(rule) {
         return Instruction {
             rule,
             left,

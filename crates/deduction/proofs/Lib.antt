@@ -1,6 +1,10 @@
-pub mod Answer
-pub mod Answering
-pub mod BuildTest
-pub mod Building
-pub mod Exact
-pub mod Sweeping
+-- Laws about the definitions:
+pub mod theory
+-- Laws shaped for the proofs of single functions: what each store, each turn and each return gives.
+pub mod BuildMemo
+pub mod CallReturns
+pub mod InverseTable
+pub mod KnowledgeMarks
+pub mod MarkArrays
+pub mod RecordOpening
+pub mod RoundLaws

@@ -2,17 +2,17 @@
 -- Terms are first taken apart, as far as the keys that can be built allow; a term is deducible when it can be built from what that reaches.
 -- That this is what finite lists of steps reach is a theorem of this crate.
 use mathlib.Core.Path.{_≡_}
-use mathlib.Core.Bool.{Bool, false, _&&_, _||_, not, cond}
+use mathlib.Core.Bool.{Bool, true, false, _&&_, _||_, not, cond}
 use mathlib.Core.List.{List}
 use Prim.Native.Nat.{ℕ, zero, suc, _<_}
 use lib.Dec.{eqb, ltb}
 use lib.ListN.{getD}
 use Rattle.base.specs.First.{any}
 use Rattle.base.specs.Grow.{listed}
-use Rattle.term.specs.Term.{Cipher, symmetric, asymmetric, pair, part, encrypt, decrypt}
+use Rattle.term.specs.Term.{Cipher, symmetric, asymmetric, pair, encryption, make, part, decrypt, Term}
 use Rattle.term.specs.Table.{Rec, leaf, branch}
 use Rattle.base.specs.Answer.{Answer, done, failsIf, andThen, answered}
-use Rattle.submission.specs.Record.{terms, entries, entryAt, recordAt, areInverse}
+use Rattle.submission.specs.Record.{terms, entries, entryAt, recordAt, term, areInverse}
 use Rattle.submission.specs.Check.{checks1to4}
 
 -- a mark for each term number
@@ -40,9 +40,9 @@ opens asymmetric s m k = any (λ j. areInverse s k j && built s m j) (terms s)
 -- taking a record apart gives the term n: fst and snd of a pair, dec and deca of what can be opened
 abbrev pub gives : List ℕ → List Bool → Rec → ℕ → Bool
 gives s m (leaf κ z) n = false
-gives s m (branch pair x y) n = eqb n x || eqb n y
+gives s m (branch (make pair) x y) n = eqb n x || eqb n y
 gives s m (branch (part i) x y) n = false
-gives s m (branch (encrypt c) x k) n = eqb n x && opens c s m k
+gives s m (branch (make (encryption c)) x k) n = eqb n x && opens c s m k
 gives s m (branch (decrypt c) x y) n = false
 
 abbrev pub taken : List ℕ → List Bool → ℕ → Bool
@@ -67,6 +67,10 @@ rounds s m (suc i) = round s (rounds s m i)
 -- the term n is deducible from the terms that m marks; each round but the last marks a term, so as many rounds as terms are enough
 unfoldable pub isDeducible : List ℕ → List Bool → ℕ → Bool
 isDeducible s m n = built s (rounds s m (terms s)) n
+
+-- a term that m marks: what m says of a number that is not below T says nothing of a term
+abbrev pub Marked : List ℕ → List Bool → Term → Type 0
+Marked s m t = (n : ℕ) × (n < terms s) × ((at m n ≡ true) × (t ≡ term s n))
 
 -- "Deducible makes checks 1 to 4, then 12": "deducible asked for a number not below T"
 unfoldable pub deducibleAnswer : List ℕ → ℕ → Answer

@@ -1,28 +1,30 @@
-// Deducibility from the knowledge, over all terms.
+// Deducibility over all terms, from the knowledge or from any marked terms.
 // Promises: every function is total, for all bytes, and `deducible` answers what the definition `deducibleAnswer` gives, which is yes
 // exactly when some finite list of Dolev-Yao steps reaches the term from the knowledge.
 // Cost, for T terms: the inverses are found once, by at most T looks through the table. A round treats each term once and decides each
 // at most once, since the build test keeps its answers. Every round but the last marks a term. So at most T rounds of T terms.
 use base::Answer;
 use base::Stage;
+use term::kinds;
 ghost use mathlib.Core.Path.{_≡_};
 ghost use mathlib.Core.Bool.{_&&_};
-ghost use Prim.Native.Nat.{_+_, _*_, _≤_, _<_};
+ghost use Prim.Native.Nat.{_<_};
 ghost use lib.ListN.{length};
 ghost use Rattle.base.specs.First.{first};
-ghost use Rattle.submission.specs.Record.{terms, entries, areInverse};
+ghost use Rattle.submission.specs.Record.{terms, recordAt, areInverse};
 ghost use Rattle.base.specs.Code.{answerOf};
 ghost use Rattle.deduction.specs.Deduce.{entryMarks, isDeducible, deducibleAnswer};
-ghost use Rattle.deduction.specs.Code.{Read, Entered, orNone, Inverses, Memo, Decided, Sound, Exact, withMark, Swept, Opened, Unbuilt, Settled};
+ghost use Rattle.deduction.specs.Code.{TableRead, marksOf, SameMarks, orNone, Inverses, partsOf, Memo, Decided, Unbuilt};
+ghost use Rattle.deduction.specs.Code.{OfTerms, OpensAs, opensBy, Settled, Exact, withMark, Swept, TakenApart};
 
-// A number for each term number.
+// A number for each term number. Of marks, 1 marks the term; those of numbers that are not below T count for nothing.
 pub struct Marks {
     pub state: [u8; 256],
 }
 
 // 1 at each term of the knowledge.
-fn entry_marks(s: &[u8]) -> Marks
-    ensures { λ r. ⌜ Entered (now (s .entry)) (entries (now (s .entry))) (r .state) ⌝ }
+pub fn knowledge_marks(s: &[u8]) -> Marks
+    ensures { λ r. ⌜ SameMarks (now (s .entry)) (marksOf (r .state)) (entryMarks (now (s .entry))) ⌝ }
 {
     let mut m = Marks { state: [0u8; 256] };
     let n = submission::entries(s);
@@ -38,7 +40,7 @@ fn inverse_of(s: &[u8], k: u8) -> u8
     ensures { λ r. ⌜ r ≡ orNone (first (areInverse (now (s .entry)) k) (terms (now (s .entry)))) ⌝ }
 {
     let key = submission::term_at(s, k);
-    if !submission::is_key(key.kind) {
+    if !kinds::is_key(key.kind) {
         return 255;
     }
     let n = submission::terms(s);
@@ -64,10 +66,31 @@ fn inverses(s: &[u8]) -> Marks
     m
 }
 
+// The parts that a term is built from: an atom has none.
+pub enum Parts {
+    Nothing,
+    Both { x: u8, y: u8 },
+}
+
+fn parts_of(s: &[u8], t: u8) -> Parts
+    requires { ⌜ TableRead (now s) ⌝ }
+    requires { ⌜ t < terms (now s) ⌝ }
+    ensures { λ r. ⌜ r ≡ partsOf (recordAt (now (s .entry)) t) ⌝ }
+{
+    let term = submission::term_at(s, t);
+    if kinds::is_atom(term.kind) {
+        return Parts::Nothing;
+    }
+    Parts::Both {
+        x: term.x,
+        y: kinds::second_part(term.kind, term.x, term.y),
+    }
+}
+
 // The memo with term t decided: 1 can be built, 2 cannot. The parts of t are earlier records, so the number falls, and each term is
 // decided once.
 fn build(s: &[u8], known: &[u8; 256], memo: Marks, t: u8) -> Marks
-    requires { ⌜ Read (now s) ⌝ }
+    requires { ⌜ TableRead (now s) ⌝ }
     requires { ⌜ t < terms (now s) ⌝ }
     requires { ⌜ Memo (now s) (now known) (memo .state) ⌝ }
     ensures { λ r. ⌜ Decided (now (s .entry)) (now (known .entry)) t (memo .state) (r .state) ⌝ }
@@ -82,21 +105,76 @@ fn build(s: &[u8], known: &[u8; 256], memo: Marks, t: u8) -> Marks
         out.state[i] = 1;
         return out;
     }
-    let term = submission::term_at(s, t);
-    if term.kind < 4 {
+    let parts = parts_of(s, t);
+    let Parts::Both { x, y } = parts else {
         out.state[i] = 2;
         return out;
-    }
-    let mut left = build(s, known, out, term.x);
-    let first = left.state[base::wide(term.x)];
+    };
+    let mut left = build(s, known, out, x);
+    let first = left.state[base::wide(x)];
     if first == 2 {
         left.state[i] = 2;
         return left;
     }
-    let mut both = build(s, known, left, term.y);
-    let second = both.state[base::wide(term.y)];
+    let mut both = build(s, known, left, y);
+    let second = both.state[base::wide(y)];
     both.state[i] = second;
     both
+}
+
+// Whether term k is an atom that is not known: that cannot be built.
+fn is_missing(s: &[u8], known: &[u8; 256], k: u8) -> bool
+    requires { ⌜ TableRead (now s) ⌝ }
+    requires { ⌜ k < terms (now s) ⌝ }
+    ensures { λ b. ⌜ Unbuilt (now (s .entry)) (now (known .entry)) k b ⌝ }
+{
+    if known[base::wide(k)] == 1 {
+        return false;
+    }
+    let parts = parts_of(s, k);
+    match parts {
+        Parts::Nothing => true,
+        Parts::Both { x: _, y: _ } => false,
+    }
+}
+
+// What opens a record: a pair gives both parts freely, an encryption its body where the key can be built, and anything else nothing.
+pub enum Opening {
+    Freely { x: u8, y: u8 },
+    With { body: u8, key: u8 },
+    Shut,
+}
+
+// An encryption is opened by this key, 255 for none.
+fn with_key(body: u8, key: u8) -> Opening
+    ensures { λ o. ⌜ o ≡ opensBy body key ⌝ }
+{
+    if key == 255 {
+        return Opening::Shut;
+    }
+    Opening::With { body, key }
+}
+
+fn opening_of(s: &[u8], inverses: &[u8; 256], t: u8) -> Opening
+    requires { ⌜ TableRead (now s) ⌝ }
+    requires { ⌜ t < terms (now s) ⌝ }
+    requires { ⌜ Inverses (now s) (terms (now s)) (now inverses) ⌝ }
+    ensures { λ o. ⌜ OpensAs (now (s .entry)) t o ⌝ }
+{
+    let term = submission::term_at(s, t);
+    let kind = term.kind;
+    match kind {
+        kinds::PAIR => Opening::Freely {
+            x: term.x,
+            y: term.y,
+        },
+        kinds::ENC => Opening::With {
+            body: term.x,
+            key: term.y,
+        },
+        kinds::ENCA => with_key(term.x, inverses[base::wide(term.y)]),
+        _ => Opening::Shut,
+    }
 }
 
 // The marks within a round, the build test's memo over the marks that it began with, and whether it has marked a term.
@@ -123,10 +201,11 @@ impl Round {
 
 // The round with `body` marked where `key` can be built.
 fn opened(s: &[u8], known: &[u8; 256], r: Round, body: u8, key: u8) -> Round
-    requires { ⌜ Read (now s) ⌝ }
+    requires { ⌜ TableRead (now s) ⌝ }
+    requires { ⌜ body < terms (now s) ⌝ }
     requires { ⌜ key < terms (now s) ⌝ }
     requires { ⌜ Memo (now s) (now known) (r .memo) ⌝ }
-    ensures { λ q. ⌜ Opened (now (s .entry)) (now (known .entry)) body key r q ⌝ }
+    ensures { λ q. ⌜ TakenApart (now (s .entry)) (now (known .entry)) (Opening.With body key) r q ⌝ }
 {
     let state = r.state;
     let changed = r.changed;
@@ -145,87 +224,52 @@ fn opened(s: &[u8], known: &[u8; 256], r: Round, body: u8, key: u8) -> Round
     next
 }
 
-// Whether term k is an atom that is not known: that cannot be built.
-fn is_missing(s: &[u8], known: &[u8; 256], k: u8) -> bool
-    ensures { λ b. ⌜ Unbuilt (now (s .entry)) (now (known .entry)) k b ⌝ }
+// Whether it shows at once that a record that opens so gives nothing new: parts or body are marked, or the key is missing. So a round is
+// handed on only where it may change.
+fn is_settled(s: &[u8], known: &[u8; 256], state: &[u8; 256], o: Opening) -> bool
+    requires { ⌜ TableRead (now s) ⌝ }
+    requires { ⌜ OfTerms (now s) o ⌝ }
+    ensures { λ b. ⌜ Settled (now (s .entry)) (now (known .entry)) (now (state .entry)) o b ⌝ }
 {
-    if known[base::wide(k)] == 1 {
-        return false;
+    match o {
+        Opening::Freely { x, y } => {
+            if state[base::wide(x)] != 1 {
+                return false;
+            }
+            state[base::wide(y)] == 1
+        }
+        Opening::With { body, key } => {
+            if state[base::wide(body)] == 1 {
+                return true;
+            }
+            is_missing(s, known, key)
+        }
+        Opening::Shut => true,
     }
-    let term = submission::term_at(s, k);
-    term.kind < 4
 }
 
-// Whether it shows at once that term t gives nothing new: it is not marked, or a pair whose parts are marked, or an encryption whose body is
-// marked or whose key is missing. So a round is handed on only where it may change.
-fn is_settled(s: &[u8], inverses: &[u8; 256], known: &[u8; 256], state: &[u8; 256], t: u8) -> bool
-    requires { ⌜ Read (now s) ⌝ }
-    requires { ⌜ t < terms (now s) ⌝ }
-    requires { ⌜ Inverses (now s) (terms (now s)) (now inverses) ⌝ }
-    ensures { λ b. ⌜ Settled (now (s .entry)) (now (known .entry)) (now (state .entry)) t b ⌝ }
+// The round with what a record gives that opens so.
+fn taken_apart(s: &[u8], known: &[u8; 256], r: Round, o: Opening) -> Round
+    requires { ⌜ TableRead (now s) ⌝ }
+    requires { ⌜ OfTerms (now s) o ⌝ }
+    requires { ⌜ Memo (now s) (now known) (r .memo) ⌝ }
+    ensures { λ q. ⌜ TakenApart (now (s .entry)) (now (known .entry)) o r q ⌝ }
 {
-    if state[base::wide(t)] != 1 {
-        return true;
+    match o {
+        Opening::Freely { x, y } => r.mark(x).mark(y),
+        Opening::With { body, key } => opened(s, known, r, body, key),
+        Opening::Shut => r,
     }
-    let term = submission::term_at(s, t);
-    if term.kind == 4 {
-        if state[base::wide(term.x)] != 1 {
-            return false;
-        }
-        return state[base::wide(term.y)] == 1;
-    }
-    if state[base::wide(term.x)] == 1 {
-        return true;
-    }
-    if term.kind == 5 {
-        return is_missing(s, known, term.y);
-    }
-    if term.kind == 6 {
-        let key = inverses[base::wide(term.y)];
-        if key == 255 {
-            return true;
-        }
-        return is_missing(s, known, key);
-    }
-    true
-}
-
-// The round with what term t gives where it is marked: a pair its parts, an encryption its body if the key that opens it can be built.
-fn taken_apart(s: &[u8], inverses: &[u8; 256], known: &[u8; 256], r: Round, t: u8) -> Round
-    requires { ⌜ Read (now s) ⌝ }
-    requires { ⌜ t < terms (now s) ⌝ }
-    requires { ⌜ Inverses (now s) (terms (now s)) (now inverses) ⌝ }
-    requires { ⌜ Swept (now s) (now known) (t + 1) r ⌝ }
-    ensures { λ q. ⌜ Swept (now (s .entry)) (now (known .entry)) t q ⌝ }
-{
-    if r.state[base::wide(t)] != 1 {
-        return r;
-    }
-    let term = submission::term_at(s, t);
-    if term.kind == 4 {
-        return r.mark(term.x).mark(term.y);
-    }
-    if term.kind == 5 {
-        return opened(s, known, r, term.x, term.y);
-    }
-    if term.kind == 6 {
-        let key = inverses[base::wide(term.y)];
-        if key == 255 {
-            return r;
-        }
-        return opened(s, known, r, term.x, key);
-    }
-    r
 }
 
 // One round over all terms. It goes from the last record down: parts are earlier records, so one round opens a whole chain of pairs.
-fn sweep(s: &[u8], inverses: &[u8; 256], known: Marks) -> Round
-    requires { ⌜ Read (now s) ⌝ }
+fn sweep(s: &[u8], inverses: &[u8; 256], known: &[u8; 256]) -> Round
+    requires { ⌜ TableRead (now s) ⌝ }
     requires { ⌜ Inverses (now s) (terms (now s)) (now inverses) ⌝ }
-    requires { ⌜ Sound (now s) (known .state) ⌝ }
-    ensures { λ r. ⌜ Swept (now (s .entry)) (known .state) 0 r ⌝ }
+    requires { ⌜ length (now known) ≡ 256 ⌝ }
+    ensures { λ r. ⌜ Swept (now (s .entry)) (now (known .entry)) 0 r ⌝ }
 {
-    let state = known.state;
+    let state = *known;
     let mut r = Round {
         state,
         memo: [0u8; 256],
@@ -234,23 +278,28 @@ fn sweep(s: &[u8], inverses: &[u8; 256], known: Marks) -> Round
     let mut i = submission::terms(s);
     while 0 < i {
         i -= 1;
-        if is_settled(s, inverses, &known.state, &r.state, i) {
+        if r.state[base::wide(i)] != 1 {
             continue;
         }
-        r = taken_apart(s, inverses, &known.state, r, i);
+        let o = opening_of(s, inverses, i);
+        if is_settled(s, known, &r.state, o) {
+            continue;
+        }
+        r = taken_apart(s, known, r, o);
     }
     r
 }
 
-// Rounds until one marks nothing. Each of the others marks a term, so there are no more of them than terms.
-fn saturated(s: &[u8]) -> Marks
-    requires { ⌜ Read (now s) ⌝ }
-    ensures { λ r. ⌜ Exact (now (s .entry)) (r .state) ⌝ }
+// Rounds from the marks `start`, of which those of terms count, until one marks nothing. Each of the others marks a term, so there are no
+// more of them than terms.
+fn saturated(s: &[u8], start: Marks) -> Marks
+    requires { ⌜ TableRead (now s) ⌝ }
+    ensures { λ r. ⌜ Exact (now (s .entry)) (start .state) (r .state) ⌝ }
 {
     let inverse = inverses(s);
-    let mut m = entry_marks(s);
+    let mut m = start;
     loop {
-        let r = sweep(s, &inverse.state, m);
+        let r = sweep(s, &inverse.state, &m.state);
         if !r.changed {
             return m;
         }
@@ -259,14 +308,14 @@ fn saturated(s: &[u8]) -> Marks
     }
 }
 
-// Whether the terms p and q are both deducible. The terms are taken apart once, and each is decided once.
-pub fn are_deducible(s: &[u8], p: u8, q: u8) -> bool
-    requires { ⌜ Read (now s) ⌝ }
+// Whether the terms p and q are both deducible from the terms that `start` marks. The terms are taken apart once, and each is decided once.
+pub fn are_deducible(s: &[u8], start: Marks, p: u8, q: u8) -> bool
+    requires { ⌜ TableRead (now s) ⌝ }
     requires { ⌜ p < terms (now s) ⌝ }
     requires { ⌜ q < terms (now s) ⌝ }
-    ensures { λ r. ⌜ r ≡ (isDeducible (now (s .entry)) (entryMarks (now (s .entry))) p && isDeducible (now (s .entry)) (entryMarks (now (s .entry))) q) ⌝ }
+    ensures { λ r. ⌜ r ≡ (isDeducible (now (s .entry)) (marksOf (start .state)) p && isDeducible (now (s .entry)) (marksOf (start .state)) q) ⌝ }
 {
-    let known = saturated(s);
+    let known = saturated(s, start);
     let first = build(s, &known.state, Marks { state: [0u8; 256] }, p);
     let answer = first.state[base::wide(p)];
     if answer != 1 {
@@ -276,12 +325,13 @@ pub fn are_deducible(s: &[u8], p: u8, q: u8) -> bool
     both.state[base::wide(q)] == 1
 }
 
+// Whether term t is deducible from the knowledge.
 fn is_deducible(s: &[u8], t: u8) -> bool
-    requires { ⌜ Read (now s) ⌝ }
+    requires { ⌜ TableRead (now s) ⌝ }
     requires { ⌜ t < terms (now s) ⌝ }
     ensures { λ r. ⌜ r ≡ isDeducible (now (s .entry)) (entryMarks (now (s .entry))) t ⌝ }
 {
-    let known = saturated(s);
+    let known = saturated(s, knowledge_marks(s));
     let decided = build(s, &known.state, Marks { state: [0u8; 256] }, t);
     decided.state[base::wide(t)] == 1
 }

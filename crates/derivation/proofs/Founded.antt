@@ -7,25 +7,25 @@ use mathlib.Core.Option.{Option, none, some}
 use Prim.Native.Nat.{ℕ, _<_}
 use native.Mathlib.Omega.{arith}
 use Rattle.base.proofs.Says.{says-true, says-eqb, says-ltb, says-and, not-not-false, or-false, none-fails}
-use Rattle.term.specs.Term.{Cipher, symmetric, asymmetric, Side, left, right, Head, pair, part, encrypt, decrypt, node, single, Match, Message}
+use Rattle.term.specs.Term.{Cipher, symmetric, asymmetric, Side, left, right, Form, pair, encryption, unary, Head, make, part, decrypt, node, single, Match, compound, Message}
+use Rattle.term.specs.Kind.{kindOf}
 use Rattle.term.specs.Reduce.{pick}
 use Rattle.term.specs.Step.{Step}
 use Rattle.term.specs.Rule.{rules, headOf, hasOne}
 use Rattle.base.specs.Answer.{passes}
-use Rattle.submission.specs.Record.{terms, steps, kindAt, xAt, yAt, ruleAt, pAt, qAt, conclusionAt, compound, kindOf, term}
+use Rattle.submission.specs.Record.{terms, steps, kindAt, xAt, yAt, ruleAt, pAt, qAt, conclusionAt, term}
 use Rattle.base.proofs.AnswerLaws.{fails-not-passes}
-use Rattle.submission.proofs.Shape.{Listable}
 use Rattle.submission.proofs.Listed.{Listed, compound-term}
 use Rattle.derivation.specs.Step.{secondAt, isRecord, partAt, opensWith, follows, badStep, unfounded, stepFault, checkSteps}
 use Rattle.derivation.proofs.Register.{KnownNumber, says-known}
 
 -- ---- check 6
 module _ {s : List ℕ} (z : Listed s) where
-  -- a record of a head over these parts
-  record-at : (h : Head) (p q n : ℕ) → Listable (compound h) → n < terms s → isRecord s n (kindOf (compound h)) p q ≡ true → term s n ≡ node h (term s p) (term s q)
-  record-at h p q n f l e =
+  -- a record of a form over these parts
+  record-at : (f : Form) (p q n : ℕ) → n < terms s → isRecord s n (kindOf (compound f)) p q ≡ true → term s n ≡ node (make f) (term s p) (term s (cond (unary f) p q))
+  record-at f p q n l e =
       let u = says-and _ _ (says-eqb (kindAt s n) _) (says-and _ _ (says-eqb (xAt s n) p) (says-eqb (yAt s n) q)) .0 e in
-      compound-term z n h f l (u .0) .2 ∙ ap₂ (λ a b. node h (term s a) (term s b)) (u .1 .0) (u .1 .1)
+      compound-term z n f l (u .0) .2 ∙ ap₂ (λ a b. node (make f) (term s a) (term s (cond (unary f) a b))) (u .1 .0) (u .1 .1)
 
   part-term : (i : Side) (n : ℕ) → term s (partAt i s n) ≡ pick i (term s (xAt s n)) (term s (yAt s n))
   part-term left n = refl
@@ -37,17 +37,16 @@ module _ {s : List ℕ} (z : Listed s) where
 
   follows-step : (h : Head) (p q c : ℕ) → p < terms s → q < terms s → c < terms s → follows s h p q c ≡ true →
       Step h (term s p) (term s (cond (single h) p q)) (term s c)
-  follows-step pair p q c lp lq lc e = record-at pair p q c tt lc e
+  follows-step (make f) p q c lp lq lc e =
+      let w = record-at f p q c lc e in
+      (subst Message w (z .messages c lc) .0, w)
   follows-step (part i) p q c lp lq lc e =
       let u = says-and _ _ (says-eqb (kindAt s p) _) (says-and _ _ (says-eqb (partAt i s p) c) (says-eqb q 0)) .0 e in
-      ((term s (xAt s p), term s (yAt s p), compound-term z p pair tt lp (u .0) .2, ap (term s) (sym (u .1 .0)) ∙ part-term i p), refl)
-  follows-step (encrypt k) p q c lp lq lc e =
-      let w = record-at (encrypt k) p q c tt lc e in
-      (subst Message w (z .messages c lc) .0, w)
+      ((term s (xAt s p), term s (yAt s p), compound-term z p pair lp (u .0) .2, ap (term s) (sym (u .1 .0)) ∙ part-term i p), refl)
   follows-step (decrypt k) p q c lp lq lc e =
       let u = says-and _ _ (says-eqb (kindAt s p) _) (says-and _ _ (says-eqb (xAt s p) c) (says-true (opensWith k s (yAt s p) q))) .0 e in
-      let w = compound-term z p (encrypt k) tt lp (u .0) in
-      (term s (yAt s p), w .2 ∙ ap (λ x. node (encrypt k) (term s x) (term s (yAt s p))) (u .1 .0), opened k (yAt s p) q (w .1) lq (u .1 .1))
+      let w = compound-term z p (encryption k) lp (u .0) in
+      (term s (yAt s p), w .2 ∙ ap (λ x. node (make (encryption k)) (term s x) (term s (yAt s p))) (u .1 .0), opened k (yAt s p) q (w .1) lq (u .1 .1))
 
 -- a step that passes check 6
 pub record Sound (s : List ℕ) (i : ℕ) : Type 0 where

@@ -5,13 +5,14 @@ use mathlib.Core.Option.{Option, none, some}
 use Prim.Native.Nat.{ℕ}
 use lib.Dec.{eqb, ltb}
 use Rattle.base.specs.First.{first}
-use Rattle.term.specs.Term.{Cipher, symmetric, asymmetric, Side, left, right, Head, pair, part, encrypt, decrypt}
+use Rattle.term.specs.Term.{Cipher, symmetric, asymmetric, Side, left, right, pair, encryption, Head, make, part, decrypt, compound}
+use Rattle.term.specs.Kind.{kindOf}
 use Rattle.term.specs.Rule.{isRule, headOf, hasOne}
 use Rattle.base.specs.Answer.{Check, passes, fails}
-use Rattle.submission.specs.Record.{terms, steps, kindAt, xAt, yAt, ruleAt, pAt, qAt, conclusionAt, compound, kindOf, areInverse}
+use Rattle.submission.specs.Record.{terms, steps, kindAt, xAt, yAt, ruleAt, pAt, qAt, conclusionAt, areInverse}
 use Rattle.derivation.specs.Register.{isKnown}
 
--- the second premise; the one premise of rules 1 and 2 counts as both
+-- the second premise; one premise counts as both
 unfoldable pub secondAt : List ℕ → ℕ → ℕ
 secondAt s i = cond (hasOne (ruleAt s i)) (pAt s i) (qAt s i)
 
@@ -29,10 +30,9 @@ opensWith asymmetric s k q = areInverse s k q
 
 -- The table of steps, of term numbers: the rule of this head concludes c from p and q.
 abbrev pub follows : List ℕ → Head → ℕ → ℕ → ℕ → Bool
-follows s pair p q c = isRecord s c (kindOf (compound pair)) p q
+follows s (make f) p q c = isRecord s c (kindOf (compound f)) p q
 follows s (part i) p q c = eqb (kindAt s p) (kindOf (compound pair)) && (eqb (partAt i s p) c && eqb q 0)
-follows s (encrypt k) p q c = isRecord s c (kindOf (compound (encrypt k))) p q
-follows s (decrypt k) p q c = eqb (kindAt s p) (kindOf (compound (encrypt k))) && (eqb (xAt s p) c && opensWith k s (yAt s p) q)
+follows s (decrypt k) p q c = eqb (kindAt s p) (kindOf (compound (encryption k))) && (eqb (xAt s p) c && opensWith k s (yAt s p) q)
 
 -- 6 step: "rule, number or shape wrong"
 unfoldable pub badStep : List ℕ → ℕ → Bool

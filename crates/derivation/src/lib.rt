@@ -2,12 +2,16 @@
 // Promises: every function is total, and its answer is what the definitions of specs/ give.
 use base::Stage;
 use submission::Term;
+use term::kinds;
+use term::rules;
 ghost use mathlib.Core.Path.{_≡_};
 ghost use mathlib.Core.Bool.{cond, _&&_};
 ghost use Prim.Native.Nat.{_+_, _<_};
 ghost use lib.Dec.{eqb};
 ghost use lib.ListN.{getD};
-ghost use Rattle.term.specs.Rule.{headOf, hasOne};
+ghost use Rattle.term.specs.Term.{asymmetric, pair, encryption, compound};
+ghost use Rattle.term.specs.Kind.{shapeOf, kindOf, builderOf};
+ghost use Rattle.term.specs.Rule.{rules as ruleCount, headOf, hasOne};
 ghost use Rattle.submission.specs.Contents.{Limited};
 ghost use Rattle.submission.specs.Record.{entries, areInverse};
 ghost use Rattle.base.specs.Code.{checkOf};
@@ -40,17 +44,17 @@ pub fn second_of(step: Step) -> u8
     ensures { λ r. ⌜ r ≡ cond (hasOne (step .rule)) (step .p) (step .q) ⌝ }
 {
     let rule = step.rule;
-    if submission::has_one(rule) {
+    if rules::has_one(rule) {
         return step.p;
     }
     step.q
 }
 
-// Whether t is the record of this kind over x and y.
-fn is_record(t: Term, kind: u8, x: u8, y: u8) -> bool
-    ensures { λ r. ⌜ r ≡ (eqb (t .kind) kind && (eqb (t .x) x && eqb (t .y) y)) ⌝ }
+// Whether t is the record that the rule builds from x and y.
+fn is_built(t: Term, rule: u8, x: u8, y: u8) -> bool
+    ensures { λ r. ⌜ r ≡ (eqb (builderOf (shapeOf (t .kind))) rule && (eqb (t .x) x && eqb (t .y) y)) ⌝ }
 {
-    if t.kind != kind {
+    if kinds::rule_of(t.kind) != rule {
         return false;
     }
     if t.x != x {
@@ -61,9 +65,9 @@ fn is_record(t: Term, kind: u8, x: u8, y: u8) -> bool
 
 // Whether this part of the pair t is what the step concludes, from t alone.
 fn is_part(t: Term, part: u8, step: Step) -> bool
-    ensures { λ r. ⌜ r ≡ (eqb (t .kind) 4 && (eqb part (step .conclusion) && eqb (step .q) 0)) ⌝ }
+    ensures { λ r. ⌜ r ≡ (eqb (t .kind) (kindOf (compound pair)) && (eqb part (step .conclusion) && eqb (step .q) 0)) ⌝ }
 {
-    if t.kind != 4 {
+    if t.kind != kinds::PAIR {
         return false;
     }
     if part != step.conclusion {
@@ -74,9 +78,9 @@ fn is_part(t: Term, part: u8, step: Step) -> bool
 
 // Whether the step opens t, an enca, with the inverse of its key.
 fn is_opened(s: &[u8], t: Term, step: Step) -> bool
-    ensures { λ r. ⌜ r ≡ (eqb (t .kind) 6 && (eqb (t .x) (step .conclusion) && areInverse (now (s .entry)) (t .y) (step .q))) ⌝ }
+    ensures { λ r. ⌜ r ≡ (eqb (t .kind) (kindOf (compound (encryption asymmetric))) && (eqb (t .x) (step .conclusion) && areInverse (now (s .entry)) (t .y) (step .q))) ⌝ }
 {
-    if t.kind != 6 {
+    if t.kind != kinds::ENCA {
         return false;
     }
     if t.x != step.conclusion {
@@ -85,22 +89,20 @@ fn is_opened(s: &[u8], t: Term, step: Step) -> bool
     submission::are_inverse(s, t.y, step.q)
 }
 
-// Whether the step's conclusion follows from its premises by its rule, one of 0 to 6.
+// Whether the step's conclusion follows from its premises by its rule.
 fn follows(s: &[u8], step: Step) -> bool
-    requires { ⌜ step .rule < 7 ⌝ }
+    requires { ⌜ step .rule < ruleCount ⌝ }
     ensures { λ r. ⌜ r ≡ followsBy (now (s .entry)) (headOf (step .rule)) (step .p) (step .q) (step .conclusion) ⌝ }
 {
     let from = submission::term_at(s, step.p);
     let to = submission::term_at(s, step.conclusion);
     let rule = step.rule;
     match rule {
-        0 => is_record(to, 4, step.p, step.q),
-        1 => is_part(from, from.x, step),
-        2 => is_part(from, from.y, step),
-        3 => is_record(to, 5, step.p, step.q),
-        4 => is_record(from, 5, step.conclusion, step.q),
-        5 => is_record(to, 6, step.p, step.q),
-        _ => is_opened(s, from, step),
+        rules::FST => is_part(from, from.x, step),
+        rules::SND => is_part(from, from.y, step),
+        rules::DEC => is_built(from, rules::ENC, step.conclusion, step.q),
+        rules::DECA => is_opened(s, from, step),
+        _ => is_built(to, rule, step.p, step.q),
     }
 }
 
@@ -110,7 +112,7 @@ fn is_step_bad(s: &[u8], i: u8) -> bool
 {
     let step = step_at(s, i);
     let terms = submission::terms(s);
-    if 7 <= step.rule {
+    if !rules::is_rule(step.rule) {
         return true;
     }
     if terms <= step.p {

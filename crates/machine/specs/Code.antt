@@ -5,22 +5,24 @@ use mathlib.Core.Bool.{Bool, _&&_, _||_, cond}
 use mathlib.Core.List.{List, [], _∷_, _++_}
 use mathlib.Core.Option.{Option, none, some}
 use Prim.Native.Nat.{ℕ, _+_, _-_, _≤_, _<_}
-use lib.Dec.{eqb, ltb}
-use lib.ListN.{length, getD}
+use lib.Dec.{eqb, ltb, leb}
+use lib.ListN.{length, getD, set}
+use Rattle.base.specs.First.{first}
 use Rattle.base.specs.Grow.{listed}
-use Rattle.term.specs.Term.{symmetric, asymmetric, left, right, Term}
+use Rattle.term.specs.Term.{Kind, public, private, left, right, part, atomic, Term}
+use Rattle.term.specs.Kind.{shapeOf, kindOf}
 use Rattle.term.specs.Term as words
-use Rattle.term.specs.Table.{Rec, leaf, branch, decoded, void, message, Below, Table}
+use Rattle.term.specs.Table.{Rec, leaf, branch, decoded, void, Table}
 use Rattle.term.specs.Rule.{rules, headOf, ruleOf}
 use Rattle.base.specs.Answer.{passes}
 use Rattle.base.specs.Bytes.{Bytes}
-use Rattle.submission.specs.Record.{kindOf, terms, entries, entryAt, atomic, shapeOf, term}
+use Rattle.submission.specs.Record.{terms, entries, entryAt, term}
 use Rattle.submission.specs.Check.{checks1to5}
 use Rattle.machine.specs.declared.Node.{Node}
 use Rattle.machine.specs.declared.Machine.{Machine}
 use Rattle.machine.specs.declared.Found.{Found}
 use Rattle.machine.specs.declared.Found.the-variants.{At, Nothing}
-use Rattle.machine.specs.declared.Interned.{Interned}
+use Rattle.machine.specs.declared.Operands.{Operands}
 use Rattle.machine.specs.declared.Cipher.{Cipher}
 use Rattle.machine.specs.declared.Cipher.the-variants.{Symmetric, Asymmetric}
 use Rattle.machine.specs.declared.Side.{Side}
@@ -29,28 +31,42 @@ use Rattle.program.specs.Program.{Instruction, Test, operand}
 use Rattle.machine.specs.Run.{atomKind, initial, registers}
 
 -- ---- small enums
-abbrev pub cipherOf : Cipher → words.Cipher
-cipherOf Symmetric = symmetric
-cipherOf Asymmetric = asymmetric
-
 abbrev pub sideOf : Side → words.Side
 sideOf Left = left
 sideOf Right = right
 
 -- ---- nodes
--- a head below 128 is a rule's number; the others are those of atoms, 128 and the kind
+-- a head below this is a rule's number; those of atoms are this and the kind
+abbrev pub atoms : ℕ
+atoms = 128
+
+abbrev pub atomHead : Kind → ℕ
+atomHead κ = atoms + kindOf (atomic κ)
+
 unfoldable pub recordFor : Node → Rec
 recordFor v =
-    cond (ltb (v .head) 128) (branch (headOf (v .head)) (v .left) (v .right)) (leaf (atomKind (shapeOf (v .head - 128))) (v .left))
+    cond (ltb (v .head) atoms) (branch (headOf (v .head)) (v .left) (v .right)) (leaf (atomKind (shapeOf (v .head - atoms))) (v .left))
 
 -- the node of a record
 abbrev pub nodeFor : Rec → Node
-nodeFor (leaf κ n) = record { head = 128 + kindOf (atomic κ); left = n; right = 0 }
+nodeFor (leaf κ n) = record { head = atomHead κ; left = n; right = 0 }
 nodeFor (branch h x y) = record { head = ruleOf h; left = x; right = y }
 
 -- ---- the state
+-- the node of a number, in the state's arrays
+abbrev pub nodeOf : List ℕ → List ℕ → List ℕ → ℕ → Node
+nodeOf heads lefts rights k = record { head = getD heads k 0; left = getD lefts k 0; right = getD rights k 0 }
+
+-- what the reductions look at
+abbrev pub operandsOf : List ℕ → List ℕ → List ℕ → ℕ → ℕ → Operands
+operandsOf heads lefts rights a b =
+    record { left = nodeOf heads lefts rights a; right = nodeOf heads lefts rights b; key = nodeOf heads lefts rights (getD rights a 0) }
+
+abbrev pub operandsIn : Machine → ℕ → ℕ → Operands
+operandsIn m a b = operandsOf (m .heads) (m .lefts) (m .rights) a b
+
 abbrev pub nodeIn : Machine → ℕ → Node
-nodeIn m k = record { head = getD (m .heads) k 0; left = getD (m .lefts) k 0; right = getD (m .rights) k 0 }
+nodeIn m k = nodeOf (m .heads) (m .lefts) (m .rights) k
 
 abbrev pub nodeAt : Machine → ℕ → Rec
 nodeAt m k = recordFor (nodeIn m k)
@@ -81,49 +97,63 @@ abbrev pub foundOf : Option ℕ → Found
 foundOf none = Nothing
 foundOf (some i) = At i
 
+-- the first that there is
+abbrev pub orFound : Found → Found → Found
+orFound (At n) o = At n
+orFound Nothing o = o
+
 abbrev pub sameNode : Node → Node → Bool
 sameNode v w = eqb (v .head) (w .head) && (eqb (v .left) (w .left) && eqb (v .right) (w .right))
 
-abbrev pub isNode : Machine → Node → ℕ → Bool
-isNode m v k = sameNode (nodeIn m k) v
+-- whether node k is v, from a number on
+abbrev pub isNodeFrom : List ℕ → List ℕ → List ℕ → Node → ℕ → ℕ → Bool
+isNodeFrom heads lefts rights v from k = leb from k && sameNode (nodeOf heads lefts rights k) v
 
 -- the first and the second part of one node
 unfoldable pub partsOfOne : Node → Node → Bool
-partsOfOne v w = eqb (v .head) 1 && (eqb (w .head) 2 && eqb (v .left) (w .left))
+partsOfOne v w = eqb (v .head) (ruleOf (part left)) && (eqb (w .head) (ruleOf (part right)) && eqb (v .left) (w .left))
 
 -- keys of one name, one public and one private
 unfoldable pub inverseNodes : Node → Node → Bool
-inverseNodes v w = ((eqb (v .head) 130 && eqb (w .head) 131) || (eqb (v .head) 131 && eqb (w .head) 130)) && eqb (v .left) (w .left)
+inverseNodes v w =
+    ((eqb (v .head) (atomHead public) && eqb (w .head) (atomHead private)) || (eqb (v .head) (atomHead private) && eqb (w .head) (atomHead public)))
+    && eqb (v .left) (w .left)
 
--- a node that can be put into the state m
-pub record Fit (m : Machine) (v : Node) : Type 0 where
-  pub sound : SoundState m
-  pub canonical : nodeFor (recordFor v) ≡ v
-  pub low : Below (m .nodes) (recordFor v)
-  pub room : m .nodes < 384
+-- the keys of opposite operations, by their numbers and their nodes
+abbrev pub matchNodes : Cipher → ℕ → ℕ → Node → Node → Bool
+matchNodes Symmetric k j v w = eqb k j
+matchNodes Asymmetric k j v w = inverseNodes v w
 
--- r is the state m with the node v in it
-pub record Has (m : Machine) (v : Node) (r : Interned) : Type 0 where
-  pub holds : Holds (r .machine) (values m)
-  pub used : r .machine .used ≡ m .used
-  pub below : r .number < r .machine .nodes
-  pub is : termAt (r .machine) (r .number) ≡ message (termAt m) (recordFor v)
-  pub few : r .machine .nodes ≤ m .nodes + 1
+-- a number, where a test holds
+abbrev pub when : Bool → ℕ → Found
+when b n = cond b (At n) Nothing
 
--- the numbers of two nodes over which the state m can make one more term
-pub record Ready (m : Machine) (a b : ℕ) : Type 0 where
-  pub sound : SoundState m
-  pub left : a < m .nodes
-  pub right : b < m .nodes
-  pub room : m .nodes < 384
-  pub space : m .used < 256
+-- the state m with one node or one register more
+abbrev pub withNode : Machine → Node → Machine
+withNode m v = record { heads = set (m .heads) (m .nodes) (v .head); lefts = set (m .lefts) (m .nodes) (v .left); rights = set (m .rights) (m .nodes) (v .right); nodes = m .nodes + 1; registers = m .registers; used = m .used }
 
--- r is the state m with the node n in the next register
-pub record Stored (m : Machine) (n : ℕ) (r : Machine) : Type 0 where
-  pub holds : Holds r (values m ++ termAt m n ∷ [])
-  pub used : r .used ≡ m .used + 1
-  pub nodes : r .nodes ≡ m .nodes
-  pub terms : (k : ℕ) → termAt r k ≡ termAt m k
+abbrev pub withRegister : Machine → ℕ → Machine
+withRegister m n = record { heads = m .heads; lefts = m .lefts; rights = m .rights; nodes = m .nodes; registers = set (m .registers) (m .used) n; used = m .used + 1 }
+
+-- the state's arrays have room for a node
+pub record Room (m : Machine) : Type 0 where
+  pub heads : m .nodes < length (m .heads)
+  pub lefts : m .nodes < length (m .lefts)
+  pub rights : m .nodes < length (m .rights)
+
+-- the state m with the node v in the next register: the node that was found, or a new one
+abbrev pub withValue : Machine → Node → Found → Machine
+withValue m v (At n) = withRegister m n
+withValue m v Nothing = withRegister (withNode m v) (m .nodes)
+
+-- what a rule's word is: the node that it reduces to, or its own node v, looked for behind its left operand
+abbrev pub resultOf : Machine → Node → Found → Found
+resultOf m v reduced = orFound reduced (foundOf (first (isNodeFrom (m .heads) (m .lefts) (m .rights) v (v .left + 1)) (m .nodes)))
+
+pub record Valued (m : Machine) (v : Node) (found : Found) (r : Machine) : Type 0 where
+  pub room : Room m
+  pub space : m .used < length (m .registers)
+  pub is : r ≡ withValue m v found
 
 -- r is the state m with the term t in the next register
 pub record Gives (m : Machine) (t : Term) (r : Machine) : Type 0 where

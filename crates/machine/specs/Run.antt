@@ -5,13 +5,14 @@ use mathlib.Core.Option.{Option, none, some}
 use Prim.Native.Nat.{ℕ}
 use lib.ListN.{getD}
 use Rattle.base.specs.Grow.{grow, listed}
-use Rattle.term.specs.Term.{Kind, plain, asymmetric, Term, atom, term?, test}
+use Rattle.term.specs.Term.{Kind, plain, asymmetric, Shape, atomic, compound, Term, atom, term?, test}
+use Rattle.term.specs.Kind.{shapeOf}
 use Rattle.term.specs.Table.{void}
 use Rattle.term.specs.Reduce.{op, match?}
 use Rattle.term.specs.Rule.{headOf}
 use Rattle.base.specs.Answer.{Answer, done, andThen, answered}
 use Rattle.base.specs.Bytes.{byte}
-use Rattle.submission.specs.Record.{entries, entryAt, guess, kindAt, Shape, atomic, compound, shapeOf, term}
+use Rattle.submission.specs.Record.{entries, entryAt, guess, kindAt, term}
 use Rattle.submission.specs.Check.{checks1to5}
 use Rattle.term.specs.Relation.{Relation, equal, inverse}
 use Rattle.program.specs.Tests.{relationOf}

@@ -6,45 +6,33 @@ use base::Answer;
 use program::Asked;
 use program::Instruction;
 use submission::Reading;
+use term::kinds;
+use term::rules;
 ghost use mathlib.Core.Path.{_≡_};
-ghost use mathlib.Core.Bool.{false, cond};
+ghost use mathlib.Core.Bool.{false, cond, _&&_};
 ghost use mathlib.Core.List.{[]};
-ghost use Prim.Native.Nat.{_≤_, _<_};
+ghost use Prim.Native.Nat.{_+_, _≤_, _<_};
+ghost use lib.Dec.{eqb};
 ghost use Rattle.base.specs.First.{first};
-ghost use Rattle.term.specs.Term.{part, node as term, test};
-ghost use Rattle.term.specs.Reduce.{match?, pick, paired as pairedTerm, parted as partedTerm, cancelled as cancelledTerm};
-ghost use Rattle.term.specs.Rule.{rules, headOf};
+ghost use Rattle.term.specs.Term.{pair, make};
+ghost use Rattle.term.specs.Reduce.{pick};
+ghost use Rattle.term.specs.Rule.{ruleOf};
 ghost use Rattle.base.specs.Code.{answerOf};
 ghost use Rattle.base.specs.Bytes.{byte as byteAt};
 ghost use Rattle.submission.specs.Record.{terms as termCount, entries as entryCount, recordAt};
 ghost use Rattle.program.specs.Program.{testAt, badProgram};
 ghost use Rattle.program.specs.Code.{instructionIn};
 ghost use Rattle.machine.specs.Run.{executed as executedTerm, signals, runAnswer};
-ghost use Rattle.machine.specs.Code.{cipherOf, sideOf, nodeFor, nodeIn, sameNode, partsOfOne, inverseNodes, isNode, foundOf, termAt, values, SoundState, Executable, Fit, Has, Ready, Stored, Gives, SubmissionRead, knowledge, Loaded, Started, Running, Testable};
-
-// The rules' numbers.
-const PAIR: u8 = 0;
-
-const FST: u8 = 1;
-
-const SND: u8 = 2;
-
-const ENC: u8 = 3;
-
-const DEC: u8 = 4;
-
-const ENCA: u8 = 5;
-
-const DECA: u8 = 6;
+ghost use Rattle.machine.specs.Code.{sideOf, nodeFor, nodeOf, operandsOf, sameNode, partsOfOne, inverseNodes, matchNodes, isNodeFrom, foundOf, orFound, resultOf, when, values, Executable, Valued, Gives, SubmissionRead, knowledge, Loaded, Started, Running, Testable};
 
 // ---- Terms as nodes.
 
-// The heads of atoms are 128 and the kind; those of keys, public and private.
+// The heads of atoms are this and the kind; those of keys, public and private.
 const ATOM: u8 = 128;
 
-const PUBLIC: u8 = 130;
+const PUBLIC: u8 = ATOM + kinds::PUBLIC;
 
-const PRIVATE: u8 = 131;
+const PRIVATE: u8 = ATOM + kinds::PRIVATE;
 
 // A term as a node. A head below ATOM is a rule's number, and the node is that rule's word over two nodes; fst and snd have their node twice.
 // An atom has its name on the left.
@@ -64,16 +52,10 @@ pub struct Machine {
     pub used: u16,
 }
 
-// What looking for a node finds: its number.
+// A node's number, where there is such a node.
 pub enum Found {
     At(u16),
     Nothing,
-}
-
-// The state with a node in it, and the node's number.
-pub struct Interned {
-    pub machine: Machine,
-    pub number: u16,
 }
 
 // enc and dec take one key, enca and deca a key and its inverse.
@@ -126,13 +108,43 @@ fn are_inverse(a: Node, b: Node) -> bool
 fn are_parts_of_one(x: Node, y: Node) -> bool
     ensures { λ r. ⌜ r ≡ partsOfOne x y ⌝ }
 {
-    if x.head != FST {
+    if x.head != rules::FST {
         return false;
     }
-    if y.head != SND {
+    if y.head != rules::SND {
         return false;
     }
     x.left == y.left
+}
+
+// Whether keys are those of opposite operations; k and j are their numbers, x and y their nodes.
+fn do_match(cipher: Cipher, k: u16, j: u16, x: Node, y: Node) -> bool
+    ensures { λ r. ⌜ r ≡ matchNodes cipher k j x y ⌝ }
+{
+    match cipher {
+        Cipher::Symmetric => k == j,
+        Cipher::Asymmetric => are_inverse(x, y),
+    }
+}
+
+// ---- The reductions: what a rule's word over nodes gives, where that is no new term.
+
+// What the reductions look at: the nodes of the operands, and the node of the left one's right operand, its key.
+pub struct Operands {
+    pub left: Node,
+    pub right: Node,
+    pub key: Node,
+}
+
+// pair: the first and the second part of one term give that term.
+fn joined(o: Operands) -> Found
+    ensures { λ r. ⌜ r ≡ when (partsOfOne (o .left) (o .right)) (o .left .left) ⌝ }
+{
+    let x = o.left;
+    if are_parts_of_one(x, o.right) {
+        return Found::At(x.left);
+    }
+    Found::Nothing
 }
 
 fn chosen(side: Side, left: u16, right: u16) -> u16
@@ -144,147 +156,145 @@ fn chosen(side: Side, left: u16, right: u16) -> u16
     }
 }
 
+// fst or snd: a pair gives its part.
+fn parted(side: Side, o: Operands) -> Found
+    ensures { λ r. ⌜ r ≡ when (eqb (o .left .head) (ruleOf (make pair))) (pick (sideOf side) (o .left .left) (o .left .right)) ⌝ }
+{
+    let x = o.left;
+    if x.head == rules::PAIR {
+        return Found::At(chosen(side, x.left, x.right));
+    }
+    Found::Nothing
+}
+
+// A rule that cancels the rule `inner`: over a node of that rule, under a key that goes with the key j, it gives the node's operand.
+fn cancelled(cipher: Cipher, inner: u8, o: Operands, j: u16) -> Found
+    ensures { λ r. ⌜ r ≡ when (eqb (o .left .head) inner && matchNodes cipher (o .left .right) j (o .key) (o .right)) (o .left .left) ⌝ }
+{
+    let x = o.left;
+    if x.head != inner {
+        return Found::Nothing;
+    }
+    if do_match(cipher, x.right, j, o.key, o.right) {
+        return Found::At(x.left);
+    }
+    Found::Nothing
+}
+
 // ---- The state, and one instruction.
 
+// The node of this number, in the state's arrays.
+fn node_at<'a>(heads: &'a [u8; 384], lefts: &'a [u16; 384], rights: &'a [u16; 384], n: u16) -> Node
+    requires { ⌜ n < 384 ⌝ }
+    ensures { λ r. ⌜ r ≡ nodeOf (now (heads .entry)) (now (lefts .entry)) (now (rights .entry)) n ⌝ }
+{
+    let i = index(n);
+    Node {
+        head: heads[i],
+        left: lefts[i],
+        right: rights[i],
+    }
+}
+
+fn operands_at<'a>(
+    heads: &'a [u8; 384],
+    lefts: &'a [u16; 384],
+    rights: &'a [u16; 384],
+    a: u16,
+    b: u16,
+) -> Operands
+    requires { ⌜ a < 384 ⌝ }
+    requires { ⌜ b < 384 ⌝ }
+    requires { ⌜ nodeOf (now heads) (now lefts) (now rights) a .right < 384 ⌝ }
+    ensures { λ r. ⌜ r ≡ operandsOf (now (heads .entry)) (now (lefts .entry)) (now (rights .entry)) a b ⌝ }
+{
+    let left = node_at(heads, lefts, rights, a);
+    let right = node_at(heads, lefts, rights, b);
+    let key = node_at(heads, lefts, rights, left.right);
+    Operands { left, right, key }
+}
+
+// The first node that is v, of those from `from` on and below n.
+fn find<'a>(
+    heads: &'a [u8; 384],
+    lefts: &'a [u16; 384],
+    rights: &'a [u16; 384],
+    v: Node,
+    from: u16,
+    n: u16,
+) -> Found
+    requires { ⌜ from ≤ n ⌝ }
+    requires { ⌜ n ≤ 384 ⌝ }
+    ensures { λ r. ⌜ r ≡ foundOf (first (isNodeFrom (now (heads .entry)) (now (lefts .entry)) (now (rights .entry)) v from) n) ⌝ }
+{
+    for i in from..n {
+        let k = index(i);
+        if is_same(heads[k], lefts[k], rights[k], v) {
+            return Found::At(i);
+        }
+    }
+    Found::Nothing
+}
+
+// What a term that may reduce is: the node that it reduces to, or the node v, looked for behind its left operand and below n.
+fn value_of<'a>(
+    heads: &'a [u8; 384],
+    lefts: &'a [u16; 384],
+    rights: &'a [u16; 384],
+    v: Node,
+    n: u16,
+    reduced: Found,
+) -> Found
+    requires { ⌜ v .left < n ⌝ }
+    requires { ⌜ n ≤ 384 ⌝ }
+    ensures { λ r. ⌜ r ≡ orFound reduced (foundOf (first (isNodeFrom (now (heads .entry)) (now (lefts .entry)) (now (rights .entry)) v (v .left + 1)) n)) ⌝ }
+{
+    let Found::At(i) = reduced else {
+        return find(heads, lefts, rights, v, v.left + 1, n);
+    };
+    Found::At(i)
+}
+
 impl Machine {
-    fn node(self, n: u16) -> Node
-        requires { ⌜ n < 384 ⌝ }
-        ensures { λ r. ⌜ r ≡ nodeIn self n ⌝ }
-    {
-        let i = index(n);
-        Node {
-            head: self.heads[i],
-            left: self.lefts[i],
-            right: self.rights[i],
-        }
-    }
-
-    // The first node that is v.
-    fn find(self, v: Node) -> Found
-        requires { ⌜ self .nodes ≤ 384 ⌝ }
-        ensures { λ r. ⌜ r ≡ foundOf (first (isNode self v) (self .nodes)) ⌝ }
-    {
-        let n = self.nodes;
-        for i in 0..n {
-            let k = index(i);
-            if is_same(self.heads[k], self.lefts[k], self.rights[k], v) {
-                return Found::At(i);
-            }
-        }
-        Found::Nothing
-    }
-
-    // The state with the node v, which is added where it is not there.
-    fn intern(self, v: Node) -> Interned
-        requires { ⌜ Fit self v ⌝ }
-        ensures { λ r. ⌜ Has self v r ⌝ }
-    {
-        let found = self.find(v);
-        let Found::At(i) = found else {
-            let mut m = self;
-            let n = m.nodes;
-            let k = index(n);
-            m.heads[k] = v.head;
-            m.lefts[k] = v.left;
-            m.rights[k] = v.right;
-            m.nodes = n + 1;
-            return Interned {
-                machine: m,
-                number: n,
-            };
-        };
-        Interned {
-            machine: self,
-            number: i,
-        }
-    }
-
-    // The state with the node n in the next register.
-    fn with_register(self, n: u16) -> Self
-        requires { ⌜ SoundState self ⌝ }
-        requires { ⌜ n < self .nodes ⌝ }
+    // The state with v in the next register: by its number, where that was found, or added.
+    fn with_value(mut self, v: Node, found: Found) -> Self
+        requires { ⌜ self .nodes < 384 ⌝ }
         requires { ⌜ self .used < 256 ⌝ }
-        ensures { λ r. ⌜ Stored self n r ⌝ }
+        ensures { λ r. ⌜ Valued self v found r ⌝ }
     {
-        let mut m = self;
-        let used = m.used;
+        let used = self.used;
         let i = index(used);
-        m.registers[i] = n;
-        m.used = used + 1;
-        m
+        self.used = used + 1;
+        let Found::At(there) = found else {
+            let n = self.nodes;
+            let k = index(n);
+            self.heads[k] = v.head;
+            self.lefts[k] = v.left;
+            self.rights[k] = v.right;
+            self.nodes = n + 1;
+            self.registers[i] = n;
+            return self;
+        };
+        self.registers[i] = there;
+        self
     }
 
-    // The state with the rule's word over a and b in the next register.
-    fn formed(self, rule: u8, a: u16, b: u16) -> Self
-        requires { ⌜ Ready self a b ⌝ }
-        requires { ⌜ rule < rules ⌝ }
-        ensures { λ r. ⌜ Gives self (term (headOf rule) (termAt self a) (termAt self b)) r ⌝ }
+    // The state with a rule's result in the next register: the node that its word reduces to, or the node v of the word itself.
+    fn with_result(self, v: Node, reduced: Found) -> Self
+        requires { ⌜ v .left < self .nodes ⌝ }
+        requires { ⌜ self .nodes < 384 ⌝ }
+        requires { ⌜ self .used < 256 ⌝ }
+        ensures { λ r. ⌜ Valued self v (resultOf self v reduced) r ⌝ }
     {
-        let made = self.intern(Node {
-            head: rule,
-            left: a,
-            right: b,
-        });
-        let m = made.machine;
-        m.with_register(made.number)
-    }
-
-    // Whether k and j are the keys of opposite operations.
-    fn do_match(self, cipher: Cipher, k: u16, j: u16) -> bool
-        requires { ⌜ SoundState self ⌝ }
-        requires { ⌜ k < self .nodes ⌝ }
-        requires { ⌜ j < self .nodes ⌝ }
-        requires { ⌜ self .nodes ≤ 384 ⌝ }
-        ensures { λ r. ⌜ r ≡ test (match? (cipherOf cipher) (termAt self k) (termAt self j)) ⌝ }
-    {
-        match cipher {
-            Cipher::Symmetric => k == j,
-            Cipher::Asymmetric => are_inverse(self.node(k), self.node(j)),
-        }
-    }
-
-    // The rule pair: the first and the second part of one term give that term.
-    fn paired(self, a: u16, b: u16) -> Self
-        requires { ⌜ Ready self a b ⌝ }
-        ensures { λ r. ⌜ Gives self (pairedTerm (termAt self a) (termAt self b)) r ⌝ }
-    {
-        let x = self.node(a);
-        let y = self.node(b);
-        if are_parts_of_one(x, y) {
-            return self.with_register(x.left);
-        }
-        self.formed(PAIR, a, b)
-    }
-
-    // The rules fst and snd: a pair gives its part.
-    fn parted(self, side: Side, rule: u8, a: u16) -> Self
-        requires { ⌜ Ready self a a ⌝ }
-        requires { ⌜ rule < rules ⌝ }
-        requires { ⌜ headOf rule ≡ part (sideOf side) ⌝ }
-        ensures { λ r. ⌜ Gives self (partedTerm (sideOf side) (termAt self a) (termAt self a)) r ⌝ }
-    {
-        let x = self.node(a);
-        if x.head != PAIR {
-            return self.formed(rule, a, a);
-        }
-        self.with_register(chosen(side, x.left, x.right))
-    }
-
-    // A rule that cancels another: over a node of that other rule, under a key that goes with b, it gives the operand.
-    fn cancelled(self, cipher: Cipher, inner: u8, outer: u8, a: u16, b: u16) -> Self
-        requires { ⌜ Ready self a b ⌝ }
-        requires { ⌜ inner < rules ⌝ }
-        requires { ⌜ outer < rules ⌝ }
-        ensures { λ r. ⌜ Gives self (cancelledTerm (cipherOf cipher) (headOf inner) (headOf outer) (termAt self a) (termAt self b)) r ⌝ }
-    {
-        let x = self.node(a);
-        if x.head != inner {
-            return self.formed(outer, a, b);
-        }
-        if self.do_match(cipher, x.right, b) {
-            return self.with_register(x.left);
-        }
-        self.formed(outer, a, b)
+        let found = value_of(
+            &self.heads,
+            &self.lefts,
+            &self.rights,
+            v,
+            self.nodes,
+            reduced,
+        );
+        self.with_value(v, found)
     }
 
     // Executes one instruction: its result goes to the next register.
@@ -296,15 +306,22 @@ impl Machine {
         let q = base::wide(program::operand_of(i));
         let a = self.registers[p];
         let b = self.registers[q];
+        let o = operands_at(&self.heads, &self.lefts, &self.rights, a, b);
         let rule = i.rule;
+        let v = Node {
+            head: rule,
+            left: a,
+            right: b,
+        };
         match rule {
-            PAIR => self.paired(a, b),
-            FST => self.parted(Side::Left, FST, a),
-            SND => self.parted(Side::Right, SND, a),
-            ENC => self.cancelled(Cipher::Symmetric, DEC, ENC, a, b),
-            DEC => self.cancelled(Cipher::Symmetric, ENC, DEC, a, b),
-            ENCA => self.cancelled(Cipher::Asymmetric, DECA, ENCA, a, b),
-            _ => self.cancelled(Cipher::Asymmetric, ENCA, DECA, a, b),
+            rules::PAIR => self.with_result(v, joined(o)),
+            rules::FST => self.with_result(v, parted(Side::Left, o)),
+            rules::SND => self.with_result(v, parted(Side::Right, o)),
+            rules::ENC => self.with_result(v, cancelled(Cipher::Symmetric, rules::DEC, o, b)),
+            rules::DEC => self.with_result(v, cancelled(Cipher::Symmetric, rules::ENC, o, b)),
+            rules::ENCA => self.with_result(v, cancelled(Cipher::Asymmetric, rules::DECA, o, b)),
+            rules::DECA => self.with_result(v, cancelled(Cipher::Asymmetric, rules::ENCA, o, b)),
+            _ => self.with_result(v, Found::Nothing),
         }
     }
 }
@@ -334,28 +351,19 @@ fn node_of(s: &[u8], t: u8) -> Node
     let term = submission::term_at(s, t);
     let kind = term.kind;
     let x = base::wide16(term.x);
-    let y = base::wide16(term.y);
-    match kind {
-        4 => Node {
-            head: PAIR,
-            left: x,
-            right: y,
-        },
-        5 => Node {
-            head: ENC,
-            left: x,
-            right: y,
-        },
-        6 => Node {
-            head: ENCA,
-            left: x,
-            right: y,
-        },
-        _ => Node {
+    if kinds::is_atom(kind) {
+        let y = base::wide16(term.y);
+        return Node {
             head: ATOM + kind,
             left: x * 256 + y,
             right: 0,
-        },
+        };
+    }
+    let second = kinds::second_part(kind, term.x, term.y);
+    Node {
+        head: kinds::rule_of(kind),
+        left: x,
+        right: base::wide16(second),
     }
 }
 
@@ -385,7 +393,11 @@ fn with_knowledge(s: &[u8]) -> Machine
     let mut m = with_terms(s);
     let n = submission::entries(s);
     for i in 0..n {
-        m = m.with_register(base::wide16(submission::entry_at(s, i)));
+        let t = base::wide16(submission::entry_at(s, i));
+        let used = m.used;
+        let k = index(used);
+        m.registers[k] = t;
+        m.used = used + 1;
     }
     m
 }
@@ -398,13 +410,13 @@ fn initial(s: &[u8], name: u16) -> Machine
     let m = with_knowledge(s);
     let claim = submission::claim_bytes(s);
     let guess = submission::term_at(s, claim.guess);
-    let made = m.intern(Node {
+    let v = Node {
         head: ATOM + guess.kind,
         left: name,
         right: 0,
-    });
-    let g = made.machine;
-    g.with_register(made.number)
+    };
+    let found = find(&m.heads, &m.lefts, &m.rights, v, 0, m.nodes);
+    m.with_value(v, found)
 }
 
 // The state after all instructions.
@@ -437,10 +449,12 @@ fn signal(program: &[u8], m: Machine) -> u16
     let q = base::wide(t.right);
     let a = m.registers[p];
     let b = m.registers[q];
+    let x = node_at(&m.heads, &m.lefts, &m.rights, a);
+    let y = node_at(&m.heads, &m.lefts, &m.rights, b);
     let relation = program::relation_of(t.letter);
     match relation {
         Asked::Equal => bit(a == b),
-        Asked::Inverse => bit(m.do_match(Cipher::Asymmetric, a, b)),
+        Asked::Inverse => bit(are_inverse(x, y)),
         Asked::Unknown => 0,
     }
 }

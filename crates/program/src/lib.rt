@@ -1,6 +1,7 @@
 // Register programs: a list of instructions and a test, their bytes, and check 13.
 // Promises: every function is total, and its answer is what the definitions of specs/ give.
 use term::Relation;
+use term::rules;
 ghost use mathlib.Core.Path.{_≡_};
 ghost use mathlib.Core.List.{[], _∷_, _++_};
 ghost use Prim.Native.Nat.{_+_, _*_, _≤_, _<_};
@@ -60,9 +61,6 @@ fn registers_of(asked: Asked) -> u8
 
 // ---- Programs.
 
-// The highest rule number.
-const LAST_RULE: u8 = 6;
-
 // One instruction: a rule and the registers of its operands.
 pub struct Instruction {
     pub rule: u8,
@@ -95,7 +93,7 @@ pub fn program_length(n: u8) -> u16
 pub fn operand_of(i: Instruction) -> u8
     ensures { λ r. ⌜ r ≡ operand (instructionIn i) ⌝ }
 {
-    if submission::has_one(i.rule) {
+    if rules::has_one(i.rule) {
         i.left
     } else {
         i.right
@@ -203,10 +201,10 @@ fn are_registers_good(written: usize, one: bool, left: u8, right: u8) -> bool
 fn is_instruction_bad(i: Instruction, written: usize) -> bool
     ensures { λ r. ⌜ r ≡ badInstruction written (instructionIn i) ⌝ }
 {
-    if LAST_RULE < i.rule {
+    if !rules::is_rule(i.rule) {
         return true;
     }
-    !are_registers_good(written, submission::has_one(i.rule), i.left, i.right)
+    !are_registers_good(written, rules::has_one(i.rule), i.left, i.right)
 }
 
 // Whether the test is bad, with the first `written` registers written.

@@ -1,9 +1,9 @@
-pub mod Claims
-pub mod Contents
+pub mod ClaimTests
+pub mod ContentsTests
 pub mod Examples
 pub mod FreshLaws
-pub mod Inverse
+pub mod GoodRecord
+pub mod InverseTests
 pub mod Listed
-pub mod Passing
-pub mod Records
-pub mod Shape
+pub mod PassedChecks
+pub mod TermTests

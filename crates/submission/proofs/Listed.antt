@@ -2,7 +2,7 @@
 -- Its records are a table: its term numbers stand for its terms, one for one.
 use mathlib.Core.Path.{_≡_, refl, sym, ap, ap₂, _∙_, subst}
 use mathlib.Core.Logic.{_↔_, ⊎-elim}
-use mathlib.Core.Bool.{true, false, _||_, false≢true}
+use mathlib.Core.Bool.{true, false, _||_, cond, false≢true}
 use mathlib.Core.List.{List}
 use mathlib.Core.Option.{Option, none, some}
 use Prim.Native.Nat.{ℕ, zero, suc, _+_, _*_, _<_, _≤_}
@@ -11,17 +11,19 @@ use lib.Dec.{ltb}
 use borrow.Author.Tests.{ltb-false}
 use Rattle.base.proofs.Order.{lt-or-ge}
 use Rattle.base.proofs.Says.{Says, says-true, says-eqb, says-ltb, says-and, says-or, not-not-false, or-false, none-fails}
-use Rattle.term.specs.Term.{Kind, plain, public, private, otherKind, symmetric, asymmetric, Head, pair, part, encrypt, decrypt, Term, atom, node, isKey, inverse, Match, Keyed, builds, Message}
+use Rattle.term.specs.Term.{Kind, plain, public, private, otherKind, asymmetric, Form, Second, absent, anything, keyFor, second, isAbsent, make, Term, atom, node, isKey, inverse, Match, Shape, atomic, compound, shape, isAtomic, isKeyFor, OperandsAs, Message}
+use Rattle.term.specs.Kind.{shapeOf, kindOf, inverseKinds}
+use Rattle.term.proofs.Kind.{kind-shape, shape-kind}
 use Rattle.term.specs.Table.{branch, message, Below, Table}
 use Rattle.term.proofs.Table.{decode-inj, decoded-reads}
 use Rattle.base.specs.Answer.{passes}
 use Rattle.base.specs.Bytes.{Bytes}
 use Rattle.submission.specs.Contents.{badCount, check1, check2}
-use Rattle.submission.specs.Record.{terms, entries, steps, kindAt, xAt, yAt, nameAt, entryAt, guess, verifying, wayAt, companion, Shape, atomic, compound, shapeOf, kindOf, takes, isAtomic, recordOf, recordAt, term, inverseKinds, areInverse}
+use Rattle.submission.specs.Record.{terms, entries, steps, kindAt, xAt, yAt, nameAt, entryAt, guess, verifying, wayAt, companion, recordOf, recordAt, term, areInverse}
 use Rattle.submission.specs.Way.{Way, another-step, at-start, inverse-key, wayOf, Range, step-number, term-number, zero-only, row, inRange, claimFits}
 use Rattle.submission.specs.Check.{badTerm, check3, badKnowledge, check4, goodClaim, check5, checks1to4, checks1to5}
 use Rattle.base.proofs.AnswerLaws.{if-passes, at-passes, then-passes}
-use Rattle.submission.proofs.Shape.{shape-kind, Listable, kind-shape, Shaped, Good, good, name-bytes, same-record}
+use Rattle.submission.proofs.GoodRecord.{HasSecond, Shaped, secondPart, second-below, Good, good, name-bytes, same-record}
 
 -- the kinds of keys, and those of a key and its inverse
 abbrev Key : Kind → Type 0
@@ -58,7 +60,7 @@ record-at s i z e = ap (λ o. recordOf o (nameAt s i) (xAt s i) (yAt s i)) e
 
 below-shaped : (s : List ℕ) (i : ℕ) (z : Shape) → Shaped s i z → Below i (recordOf (some z) (nameAt s i) (xAt s i) (yAt s i))
 below-shaped s i (atomic κ) f = tt
-below-shaped s i (compound h) f = (f .0, f .1 .0)
+below-shaped s i (compound f) g = (g .0, second-below s i (second f) (g .0) (g .1))
 
 module _ (s : List ℕ) (bytes : Bytes s) (all : (i : ℕ) → i < terms s → Good s i) where
   earlier-at : (i : ℕ) → i < terms s → Below i (recordAt s i)
@@ -68,7 +70,7 @@ module _ (s : List ℕ) (bytes : Bytes s) (all : (i : ℕ) → i < terms s → G
   distinct-at i j l m e =
       let g = all i l in
       let h = all j m in
-      let (p, x, y) = same-record (g .shape) (h .shape) _ _ _ _ _ _ (name-bytes (bytes _) (bytes _) (bytes _) (bytes _))
+      let (p, x, y) = same-record s i j (g .shape) (h .shape) (g .fits) (h .fits) (name-bytes (bytes _) (bytes _) (bytes _) (bytes _))
       (sym (record-at s i (g .shape) (g .has)) ∙ e ∙ record-at s j (h .shape) (h .has)) in
       let k : kindAt s i ≡ kindAt s j = shape-kind _ _ (g .has) ∙ ap kindOf p ∙ sym (shape-kind _ _ (h .has)) in
       ⊎-elim (λ a. absurd (h .new i a k x y)) (λ a. ⊎-elim (λ b. absurd (g .new j b (sym k) (sym x) (sym y))) (λ b. omega arith) (lt-or-ge j i)) (lt-or-ge i j)
@@ -82,8 +84,8 @@ module _ (s : List ℕ) (bytes : Bytes s) (all : (i : ℕ) → i < terms s → G
   term-at : (i : ℕ) (z : Shape) → i < terms s → shapeOf (kindAt s i) ≡ some z → term s i ≡ message (term s) (recordOf (some z) (nameAt s i) (xAt s i) (yAt s i))
   term-at i z l e = t .reads i l ∙ ap (message (term s)) (record-at s i z e)
 
-  term-of-kind : (i : ℕ) (z : Shape) → Listable z → i < terms s → kindAt s i ≡ kindOf z → term s i ≡ message (term s) (recordOf (some z) (nameAt s i) (xAt s i) (yAt s i))
-  term-of-kind i z f l e = term-at i z l (ap shapeOf e ∙ kind-shape z f)
+  term-of-kind : (i : ℕ) (z : Shape) → i < terms s → kindAt s i ≡ kindOf z → term s i ≡ message (term s) (recordOf (some z) (nameAt s i) (xAt s i) (yAt s i))
+  term-of-kind i z l e = term-at i z l (ap shapeOf e ∙ kind-shape z)
 
   -- the kind and the name of an atom
   atom-of : (i : ℕ) (κ : Kind) (n : ℕ) → i < terms s → term s i ≡ atom κ n → (kindAt s i ≡ kindOf (atomic κ)) × (nameAt s i ≡ n)
@@ -96,15 +98,18 @@ module _ (s : List ℕ) (bytes : Bytes s) (all : (i : ℕ) → i < terms s → G
           (shape-kind _ _ h ∙ ap (λ k. kindOf (atomic k)) p, cc)
       go (compound h′) h = let u = sym (term-at i (compound h′) l h) ∙ e in absurd (let o : _≡_ {A = ℕ} 0 1 = cc in omega arith)
 
-  -- the key that a head takes
-  key-taken : (h : Head) (i : ℕ) (a : Term) → i < terms s → takes h (kindAt s i) ≡ true → builds h a (term s i)
-  key-taken pair i a l e = tt
-  key-taken (part x) i a l e = absurd (false≢true e)
-  key-taken (encrypt symmetric) i a l e = subst (Keyed symmetric) (sym (term-of-kind i (atomic plain) tt l (says-eqb _ _ .0 e))) tt
-  key-taken (encrypt asymmetric) i a l e =
-      ⊎-elim (λ k. subst isKey (sym (term-of-kind i (atomic public) tt l k)) tt) (λ k. subst isKey (sym (term-of-kind i (atomic private) tt l k)) tt)
-      (says-or _ _ (says-eqb _ _) (says-eqb _ _) .0 e)
-  key-taken (decrypt c) i a l e = absurd (false≢true e)
+  -- a term is of the shape of its record
+  shape-of : (i : ℕ) → i < terms s → shape (term s i) ≡ shapeOf (kindAt s i)
+  shape-of i l = go (all i l .shape) (all i l .has)
+    where
+      go : (z : Shape) → shapeOf (kindAt s i) ≡ some z → shape (term s i) ≡ shapeOf (kindAt s i)
+      go (atomic κ) h = ap shape (term-at i (atomic κ) l h) ∙ sym h
+      go (compound f) h = ap shape (term-at i (compound f) l h) ∙ sym h
+
+  operands : (i : ℕ) (o : Second) → i < terms s → HasSecond s i o → OperandsAs o (term s (xAt s i)) (term s (cond (isAbsent o) (xAt s i) (yAt s i)))
+  operands i absent l f = refl
+  operands i anything l f = tt
+  operands i (keyFor c) l f = ap (isKeyFor c) (shape-of (yAt s i) (let g = f .0 in omega arith)) ∙ f .1
 
   messages-below : (k i : ℕ) → i < k → i < terms s → Message (term s i)
   messages-below zero i b l = absurd (omega arith)
@@ -113,15 +118,16 @@ module _ (s : List ℕ) (bytes : Bytes s) (all : (i : ℕ) → i < terms s → G
       go : (z : Shape) → shapeOf (kindAt s i) ≡ some z → Shaped s i z → ((j : ℕ) → j < k → j < terms s → Message (term s j)) → Message (term s i)
       go (atomic κ) h f ih = subst Message (sym (term-at i (atomic κ) l h)) tt
       go (compound o) h f ih =
+          let c = second-below s i (second o) (f .0) (f .1) in
           subst Message (sym (term-at i (compound o) l h))
-          (key-taken o (yAt s i) (term s (xAt s i)) (omega arith) (f .1 .1), ih (xAt s i) (omega arith) (omega arith), ih (yAt s i) (omega arith) (omega arith))
+          (operands i (second o) l (f .1), ih (xAt s i) (omega arith) (omega arith), ih (secondPart s i o) (omega arith) (omega arith))
 
   -- keys of one name, one the other's inverse
   kinds-inverse : (i j : ℕ) (κ : Kind) → i < terms s → j < terms s → Key κ → kindAt s i ≡ kindOf (atomic κ) → kindAt s j ≡ kindOf (atomic (otherKind κ)) →
       nameAt s i ≡ nameAt s j → Match asymmetric (term s i) (term s j)
   kinds-inverse i j κ l m k e f n =
-      let p = term-of-kind i (atomic κ) tt l e in
-      let q = term-of-kind j (atomic (otherKind κ)) tt m f in
+      let p = term-of-kind i (atomic κ) l e in
+      let q = term-of-kind j (atomic (otherKind κ)) m f in
       record { fits = subst isKey (sym p) (key-named κ k (nameAt s i)); turned = q ∙ ap (atom (otherKind κ)) (sym n) ∙ sym (ap inverse p) }
 
   inverse-kinds : (i j : ℕ) → i < terms s → j < terms s → Match asymmetric (term s i) (term s j) →
@@ -185,11 +191,11 @@ listed s b e =
     }
 
 -- a listed compound term, by its record's kind
-pub compound-term : {s : List ℕ} → Listed s → (i : ℕ) (h : Head) → Listable (compound h) → i < terms s → kindAt s i ≡ kindOf (compound h) →
-    (xAt s i < terms s) × (yAt s i < terms s) × (term s i ≡ node h (term s (xAt s i)) (term s (yAt s i)))
-compound-term {s} z i h f l e =
-    let u : Below i (branch h (xAt s i) (yAt s i)) = subst (Below i) (record-at s i (compound h) (ap shapeOf e ∙ kind-shape (compound h) f)) (z .table .earlier i l) in
-    (omega arith, omega arith, term-of-kind s (z .bytes) (z .good) (z .table) i (compound h) f l e)
+pub compound-term : {s : List ℕ} → Listed s → (i : ℕ) (f : Form) → i < terms s → kindAt s i ≡ kindOf (compound f) →
+    (xAt s i < terms s) × (secondPart s i f < terms s) × (term s i ≡ node (make f) (term s (xAt s i)) (term s (secondPart s i f)))
+compound-term {s} z i f l e =
+    let u : Below i (branch (make f) (xAt s i) (secondPart s i f)) = subst (Below i) (record-at s i (compound f) (ap shapeOf e ∙ kind-shape (compound f))) (z .table .earlier i l) in
+    (omega arith, omega arith, term-of-kind s (z .bytes) (z .good) (z .table) i (compound f) l e)
 
 -- ---- check 5
 abbrev pub InRange : List ℕ → Range → ℕ → Type 0

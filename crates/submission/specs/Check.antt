@@ -1,20 +1,24 @@
 -- Checks 3 to 5, and the first five in order: document 01, 'Verdicts'.
-use mathlib.Core.Bool.{Bool, true, false, _&&_, _||_, not}
+use mathlib.Core.Bool.{Bool, true, false, _&&_, _||_, not, cond}
 use mathlib.Core.List.{List}
 use mathlib.Core.Option.{Option, none, some}
 use Prim.Native.Nat.{ℕ}
 use lib.Dec.{eqb, ltb}
 use Rattle.base.specs.First.{first, any}
+use Rattle.term.specs.Term.{second, unary, Shape, atomic, compound, takes, isAtomic}
+use Rattle.term.specs.Kind.{shapeOf}
 use Rattle.base.specs.Answer.{Check, failsAt, failsIf, andThen}
 use Rattle.submission.specs.Contents.{check1, check2}
-use Rattle.submission.specs.Record.{terms, entries, kindAt, xAt, yAt, entryAt, guess, wayAt, Shape, atomic, compound, shapeOf, takes, isAtomic}
+use Rattle.submission.specs.Record.{terms, entries, kindAt, xAt, yAt, entryAt, guess, wayAt}
 use Rattle.submission.specs.Way.{wayOf, claimFits}
 
--- "In 4 to 6, x and y number earlier terms", and y is of a kind that the head takes
+-- "In 4 to 6, x and y number earlier terms", and y is of a kind that the form takes; where there is no second operand, y is 0
 abbrev pub shapeFits : List ℕ → ℕ → Option Shape → Bool
 shapeFits s i none = false
 shapeFits s i (some (atomic κ)) = true
-shapeFits s i (some (compound h)) = ltb (xAt s i) i && (ltb (yAt s i) i && takes h (kindAt s (yAt s i)))
+shapeFits s i (some (compound f)) =
+    ltb (xAt s i) i
+    && cond (unary f) (eqb (yAt s i) 0) (ltb (yAt s i) i && takes (second f) (shapeOf (kindAt s (yAt s i))))
 
 -- "No two records are equal, so equal terms have equal numbers."
 abbrev pub sameRecord : List ℕ → ℕ → ℕ → Bool

@@ -6,15 +6,16 @@ use base::wide;
 use base::wide16;
 use base::word;
 use term::Relation;
+use term::kinds;
 ghost use mathlib.Core.Path.{_≡_};
-ghost use mathlib.Core.Bool.{_&&_, _||_};
+ghost use mathlib.Core.Bool.{_&&_};
 ghost use Prim.Native.Nat.{_<_};
 ghost use lib.Dec.{eqb};
 ghost use Rattle.base.specs.First.{any};
-ghost use Rattle.term.specs.Rule.{hasOne};
+ghost use Rattle.term.specs.Kind.{shapeOf};
 ghost use Rattle.base.specs.Bytes.{byte as byteAt, word as wordAt};
 ghost use Rattle.submission.specs.Contents.{wrongLetter, wrongStart, badContents, check1, check2};
-ghost use Rattle.submission.specs.Record.{terms as termCount, entries as entryCount, steps as stepCount, kindAt, xAt, yAt, entryAt, wayAt, shapeOf, isAtomic, areInverse};
+ghost use Rattle.submission.specs.Record.{terms as termCount, entries as entryCount, steps as stepCount, kindAt, xAt, yAt, entryAt, wayAt, areInverse};
 ghost use Rattle.submission.specs.Way.{wayOf, row, inRange, claimFits};
 ghost use Rattle.submission.specs.Check.{shapeFits, sameRecord, badTerm, badKnowledge, goodClaim, check3, check4, check5, checks1to4, checks1to5};
 ghost use Rattle.base.specs.Code.{checkOf};
@@ -120,23 +121,7 @@ pub fn are_inverse(s: &[u8], i: u8, j: u8) -> bool
     if a.y != b.y {
         return false;
     }
-    if a.kind == 2 {
-        return b.kind == 3;
-    }
-    if a.kind == 3 {
-        return b.kind == 2;
-    }
-    false
-}
-
-// Whether a rule has one premise, and so one register.
-pub fn has_one(rule: u8) -> bool
-    ensures { λ r. ⌜ r ≡ hasOne rule ⌝ }
-{
-    if rule == 1 {
-        return true;
-    }
-    rule == 2
+    kinds::are_inverse(a.kind, b.kind)
 }
 
 // ---- Check 1, contents.
@@ -227,48 +212,25 @@ pub fn check_counts(s: &[u8]) -> Stage
 
 // ---- Check 3, term.
 
-// Whether a term of this kind is a public or a private key.
-pub fn is_key(kind: u8) -> bool
-    ensures { λ r. ⌜ r ≡ (eqb kind 2 || eqb kind 3) ⌝ }
-{
-    if kind == 2 {
-        return true;
-    }
-    kind == 3
-}
-
-// Whether a term of this kind is an atom: a plain one, or a key.
-pub fn is_atom(kind: u8) -> bool
-    ensures { λ r. ⌜ r ≡ isAtomic (shapeOf kind) ⌝ }
-{
-    if kind == 1 {
-        return true;
-    }
-    is_key(kind)
-}
-
-// Whether record i is of some kind, with parts that are earlier terms and a key that this kind takes.
+// Whether record i is of some kind, with parts that are earlier terms, the second of a kind that this kind takes.
 fn shape_fits(s: &[u8], i: u8) -> bool
     ensures { λ r. ⌜ r ≡ shapeFits (now (s .entry)) i (shapeOf (kindAt (now (s .entry)) i)) ⌝ }
 {
     let t = term_at(s, i);
-    if is_atom(t.kind) {
+    if kinds::is_atom(t.kind) {
         return true;
     }
     if i <= t.x {
         return false;
     }
+    if kinds::is_unary(t.kind) {
+        return t.y == 0;
+    }
     if i <= t.y {
         return false;
     }
     let second = term_at(s, t.y);
-    let kind = t.kind;
-    match kind {
-        4 => true,
-        5 => second.kind == 1,
-        6 => is_key(second.kind),
-        _ => false,
-    }
+    kinds::takes(t.kind, second.kind)
 }
 
 // The last byte of each term's record, by the term's number.
@@ -527,7 +489,7 @@ fn is_claim_good(s: &[u8], c: Claim) -> bool
         return false;
     }
     let guess = term_at(s, c.guess);
-    if !is_atom(guess.kind) {
+    if !kinds::is_atom(guess.kind) {
         return false;
     }
     claim_fits(s, c)

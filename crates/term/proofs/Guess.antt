@@ -4,7 +4,7 @@ use mathlib.Core.Logic.{_⊎_, inl, inr, ⊎-elim}
 use mathlib.Core.Bool.{true}
 use native.Mathlib.Omega.{arith}
 use Prim.Native.Nat.{ℕ}
-use Rattle.term.specs.Term.{plain, public, private, Cipher, symmetric, asymmetric, Side, left, right, Head, pair, part, encrypt, decrypt, Term, atom, node, isKey, inverse, Match, builds, single, Message, Part}
+use Rattle.term.specs.Term.{plain, public, private, Cipher, symmetric, asymmetric, Side, left, right, pair, encryption, Head, make, part, decrypt, Term, atom, node, isKey, inverse, Match, builds, single, Message, Part}
 use Rattle.term.specs.Reduce.{pick, op}
 use Rattle.term.specs.Step.{Step, Undoes}
 use Rattle.term.proofs.Reduce.{Atomic, atom-not-node, part-self, part-node, match-det, match-sym, Reduces, op-cases, step-op, step-det}
@@ -132,7 +132,7 @@ module _ (K : Term → Type 0) (D : Head → Term → Term → Term → Type 0) 
         go (inr e) f = absurd (unmatched y (subst (λ z. Match asymmetric z b) e m))
 
     -- the key of a clean value matches no tainted one
-    encrypted-fresh : (c : Cipher) {p v r k b : Term} → v ≡ node (encrypt c) r k → Match c k b → Part w v ⊎ Part w b → Reach K p → v ≡ p → ⊥
+    encrypted-fresh : (c : Cipher) {p v r k b : Term} → v ≡ node (make (encryption c)) r k → Match c k b → Part w v ⊎ Part w b → Reach K p → v ≡ p → ⊥
     encrypted-fresh c f m (inl i) x e = clean-fresh x e i
     encrypted-fresh c {p} {v = v} {r} {k} {b} f m (inr i) x e =
         ⊎-elim (out w w-atom w-fresh) (out (inverse w) inverse-atomic w-inverse-fresh) (match-part c w k b m i)
@@ -153,35 +153,35 @@ module _ (K : Term → Type 0) (D : Head → Term → Term → Term → Type 0) 
     -- the step that formed the operand that is reduced.
     reduced : (h : Head) (p q t : Term) {v u r : Term} → Executed h p q t v u → Part w v ⊎ Part w u → Reduces h v u r →
         MayHold t r × UndoesSome D h p t
-    reduced pair p q t {r = r} x taint red =
+    reduced (make pair) p q t {r = r} x taint red =
         let (p₀, p₁, d, x₀, x₁) = formed-by (x .first) (red .2) (not-message (red .2) (λ f. f)) in
         let (q₀, q₁, d′, y₀, y₁) = formed-by (x .second) (red .3) (not-message (red .3) (λ f. f)) in
         let e : p₀ ≡ q₀ = same-term x₀ y₀ refl in
-        let s = sound pair p q t (x .step) in
+        let s = sound (make pair) p q t (x .step) in
         let s₁ = sound (part left) p₀ p₁ p d in
         let s₂ = sound (part right) q₀ q₁ q d′ in
         let f : p₀ ≡ t = cc in
-        (subst (λ z. MayHold z r) f x₀, (part left, p₀, p₁, p, d, (left, refl, f)))
+        (subst (λ z. MayHold z r) f x₀, (part left, p₀, p₁, p, d, inr (refl, f)))
     reduced (part i) p q t x taint red =
         let (p₁, q₁, d, x₁, y₁) = formed-by (x .first) (red .2) (λ k e. clean-fresh k e (both (x .once refl) taint)) in
         let s = sound (part i) p q t (x .step) in
-        let s₁ = sound pair p₁ q₁ p d in
+        let s₁ = sound (make pair) p₁ q₁ p d in
         let f : p₁ ≡ s .0 .0 = cc in
         let f′ : q₁ ≡ s .0 .1 = cc in
-        (subst₂ MayHold (ap₂ (pick i) f f′ ∙ sym (s .0 .3)) (sym (red .3)) (pick-may-hold i x₁ y₁), (pair, p₁, q₁, p, d, (refl, refl)))
-    reduced (encrypt c) p q t {r = r} x taint red =
+        (subst₂ MayHold (ap₂ (pick i) f f′ ∙ sym (s .0 .3)) (sym (red .3)) (pick-may-hold i x₁ y₁), (make pair, p₁, q₁, p, d, inl (refl, refl)))
+    reduced (make (encryption c)) p q t {r = r} x taint red =
         let (p₁, q₁, d, x₁, y₁) = formed-by (x .first) (red .1) (not-message (red .1) (λ f. f)) in
-        let s = sound (encrypt c) p q t (x .step) in
+        let s = sound (make (encryption c)) p q t (x .step) in
         let s₁ = sound (decrypt c) p₁ q₁ p d in
         let e : q ≡ s₁ .0 = match-det (match-back c y₁ (x .second) (red .2)) (match-sym (s₁ .2)) in
         let f : p₁ ≡ t = cc in
-        (subst (λ z. MayHold z r) f x₁, (decrypt c, p₁, q₁, p, d, (refl, f)))
+        (subst (λ z. MayHold z r) f x₁, (decrypt c, p₁, q₁, p, d, inr (refl, f)))
     reduced (decrypt c) p q t {r = r} x taint red =
         let (p₁, q₁, d, x₁, y₁) = formed-by (x .first) (red .1) (encrypted-fresh c (red .1) (red .2) taint) in
         let s = sound (decrypt c) p q t (x .step) in
-        let s₁ = sound (encrypt c) p₁ q₁ p d in
+        let s₁ = sound (make (encryption c)) p₁ q₁ p d in
         let f : p₁ ≡ t = cc in
-        (subst (λ z. MayHold z r) f x₁, (encrypt c, p₁, q₁, p, d, (refl, refl)))
+        (subst (λ z. MayHold z r) f x₁, (make (encryption c), p₁, q₁, p, d, inl (refl, refl)))
 
     -- a step on a tainted value
     tainted : {h : Head} {p q t v u : Term} → Executed h p q t v u → Part w v ⊎ Part w u →

@@ -1,7 +1,9 @@
-pub mod Built
+pub mod Deducibility
 pub mod FreshLaws
 pub mod Guess
+pub mod Kind
 pub mod Marks
+pub mod Numbered
 pub mod Reach
 pub mod Reduce
 pub mod Rule

@@ -2,7 +2,7 @@
 use mathlib.Core.Path.{_≡_, refl}
 use mathlib.Core.Logic.{_↔_, _⊎_, inl, inr, ⊎-elim}
 use mathlib.Core.List.{List, [], _∷_}
-use Rattle.term.specs.Term.{Cipher, Side, Head, pair, part, encrypt, decrypt, Term, node, Match, Message, Part}
+use Rattle.term.specs.Term.{Cipher, Side, pair, encryption, Head, make, part, decrypt, Term, node, Match, Message, Part}
 use Rattle.term.specs.Reduce.{pick}
 use Rattle.term.specs.Step.{Step, Line, Reaches, Deducible}
 use Rattle.term.proofs.Reduce.{Atomic, step-message, step-part}
@@ -12,11 +12,11 @@ pub data Reach (K : Term → Type 0) : Term → Type 0 where
   stepped : {t : Term} (h : Head) (p q : Term) → Step h p q t → Reach K p → Reach K q → Reach K t
 
 -- taking apart is by steps
-pub reach-part : {K : Term → Type 0} (i : Side) {x y : Term} → Reach K (node pair x y) → Reach K (pick i x y)
-reach-part i {x} {y} r = stepped (part i) (node pair x y) (node pair x y) ((x, y, refl, refl), refl) r r
+pub reach-part : {K : Term → Type 0} (i : Side) {x y : Term} → Reach K (node (make pair) x y) → Reach K (pick i x y)
+reach-part i {x} {y} r = stepped (part i) (node (make pair) x y) (node (make pair) x y) ((x, y, refl, refl), refl) r r
 
-pub reach-opened : {K : Term → Type 0} (c : Cipher) {x k j : Term} → Reach K (node (encrypt c) x k) → Match c k j → Reach K j → Reach K x
-reach-opened c {x} {k} {j} r m y = stepped (decrypt c) (node (encrypt c) x k) j (k, refl, m) r y
+pub reach-opened : {K : Term → Type 0} (c : Cipher) {x k j : Term} → Reach K (node (make (encryption c)) x k) → Match c k j → Reach K j → Reach K x
+reach-opened c {x} {k} {j} r m y = stepped (decrypt c) (node (make (encryption c)) x k) j (k, refl, m) r y
 
 -- only messages, and only atoms of the knowledge, are reached from messages
 module _ (K : Term → Type 0) where
@@ -37,7 +37,7 @@ reach-reach f (stepped h p q s a b) = stepped h p q s (reach-reach f a) (reach-r
 list-reach : (K : Term → Type 0) (ls : List Line) (t : Term) → Reaches K ls t → Reach K t
 list-reach K [] t k = known k
 list-reach K (l ∷ ls) t (s, a, b, r) =
-    reach-reach (λ u k. ⊎-elim (λ v. known v) (λ e. rw e (stepped (l .rule) (l .first) (l .second) s (known a) (known b))) k)
+    reach-reach (λ u k. ⊎-elim (λ v. known v) (λ e. rw e (stepped (l .rule) (l .premise) (l .other) s (known a) (known b))) k)
     (list-reach (λ u. K u ⊎ (u ≡ l .conclusion)) ls t r)
 
 -- a list that goes on after p was reached: the steps to p come first
@@ -47,7 +47,7 @@ first-reach {p = p} (known k) t J f go = go J (λ u j. j) (f p k)
 first-reach {p = p} (stepped h a b s x y) t J f go =
     first-reach x t J f (λ J₁ f₁ a₁. first-reach y t J₁ (λ u k. f₁ u (f u k)) (λ J₂ f₂ b₂.
     let (ls, r) = go (λ u. J₂ u ⊎ (u ≡ p)) (λ u j. inl (f₂ u (f₁ u j))) (inr refl) in
-    (record { rule = h; first = a; second = b; conclusion = p } ∷ ls, (s, f₂ a a₁, b₂, r))))
+    (record { rule = h; premise = a; other = b; conclusion = p } ∷ ls, (s, f₂ a a₁, b₂, r))))
 
 pub reach-iff : (K : Term → Type 0) (t : Term) → Reach K t ↔ Deducible K t
 reach-iff K t = (λ r. first-reach r t K (λ u k. k) (λ J f j. ([], j)), λ d. list-reach K (d .0) t (d .1))

@@ -5,8 +5,8 @@ use mathlib.Core.Bool.{false≢true}
 use native.Mathlib.Omega.{arith}
 use Prim.Native.Nat.{ℕ}
 use Rattle.base.proofs.Says.{Says}
-use Rattle.term.specs.Term.{Kind, plain, public, private, Cipher, symmetric, asymmetric, Side, left, right, Head, pair, part, encrypt, decrypt, Term, atom, node, test, term?, head?, isKey, Fits, turn, Match, builds, Message, Part}
-use Rattle.term.specs.Reduce.{match?, cancelled, paired, pick, parted, op}
+use Rattle.term.specs.Term.{Kind, plain, public, private, Cipher, symmetric, asymmetric, Side, left, right, Form, pair, encryption, Head, make, part, decrypt, Term, atom, node, test, term?, head?, isKey, Fits, turn, Match, Operands, builds, Message, Part}
+use Rattle.term.specs.Reduce.{match?, cancelled, paired, pick, parted, made, op}
 use Rattle.term.specs.Step.{Step}
 
 -- a decision as a test says what was decided
@@ -45,10 +45,10 @@ Cancels c inner a b r = (k : Term) × (a ≡ node inner r k) × Match c k b
 
 -- the head h over a and b is reduced to r
 abbrev pub Reduces : Head → Term → Term → Term → Type 0
-Reduces pair a b r = (x y : Term) × (a ≡ node (part left) r x) × (b ≡ node (part right) r y)
-Reduces (part s) a b r = (x y : Term) × (a ≡ node pair x y) × (r ≡ pick s x y)
-Reduces (encrypt c) a b r = Cancels c (decrypt c) a b r
-Reduces (decrypt c) a b r = Cancels c (encrypt c) a b r
+Reduces (make pair) a b r = (x y : Term) × (a ≡ node (part left) r x) × (b ≡ node (part right) r y)
+Reduces (part s) a b r = (x y : Term) × (a ≡ node (make pair) x y) × (r ≡ pick s x y)
+Reduces (make (encryption c)) a b r = Cancels c (decrypt c) a b r
+Reduces (decrypt c) a b r = Cancels c (make (encryption c)) a b r
 
 -- v is what a reduction gives, or the head over its operands
 abbrev pub Outcome : Head → Term → Term → Term → Type 0
@@ -72,29 +72,32 @@ unfolding parted
 parted-cases s (atom κ n) b = inr refl
 parted-cases s (node h x y) b =
     ⊎-elim (λ u. inl (pick s x y, (x, y, ap (λ z. node z x y) (u .0), refl), u .1)) (λ f. inr f)
-    (ite-cases (head? h pair) (pick s x y) (node (part s) (node h x y) b))
+    (ite-cases (head? h (make pair)) (pick s x y) (node (part s) (node h x y) b))
 
-paired-cases : (a b : Term) → Outcome pair a b (paired a b)
+paired-cases : (a b : Term) → Outcome (make pair) a b (paired a b)
 unfolding paired
 paired-cases (atom κ n) b = inr refl
 paired-cases (node h x x′) (atom κ n) = inr refl
 paired-cases (node h x x′) (node h′ y y′) =
     ⊎-elim (λ u. let e : node h′ y y′ ≡ node (part right) x y′ = cc in inl (x, (x′, y′, ap (λ z. node z x x′) (u .0 .0), e), u .1)) (λ f. inr f)
-    (ite-cases (Dec·and (head? h (part left)) (Dec·and (head? h′ (part right)) (term? y x))) x (node pair (node h x x′) (node h′ y y′)))
+    (ite-cases (Dec·and (head? h (part left)) (Dec·and (head? h′ (part right)) (term? y x))) x (node (make pair) (node h x x′) (node h′ y y′)))
 
 pub op-cases : (h : Head) (a b : Term) → Outcome h a b (op h a b)
 unfolding op
-op-cases pair a b = paired-cases a b
+op-cases (make pair) a b = paired-cases a b
+op-cases (make (encryption c)) a b = cancelled-cases c (decrypt c) (make (encryption c)) a b
 op-cases (part s) a b = parted-cases s a b
-op-cases (encrypt c) a b = cancelled-cases c (decrypt c) (encrypt c) a b
-op-cases (decrypt c) a b = cancelled-cases c (encrypt c) (decrypt c) a b
+op-cases (decrypt c) a b = cancelled-cases c (make (encryption c)) (decrypt c) a b
 
 -- and reduces where it can
 cancelled-reduced : (c : Cipher) (inner outer : Head) (x k b : Term) → Match c k b → cancelled c inner outer (node inner x k) b ≡ x
 unfolding cancelled
 cancelled-reduced c inner outer x k b m = if-pos (Dec·and (head? inner inner) (match? c k b)) (refl, m) x _
 
-parted-reduced : (s : Side) (x y b : Term) → parted s (node pair x y) b ≡ pick s x y
+cancelled-reduces : (c : Cipher) (inner outer : Head) {a b r : Term} → Cancels c inner a b r → cancelled c inner outer a b ≡ r
+cancelled-reduces c inner outer {b = b} {r} u = ap (λ z. cancelled c inner outer z b) (u .1) ∙ cancelled-reduced c inner outer r (u .0) b (u .2)
+
+parted-reduced : (s : Side) (x y b : Term) → parted s (node (make pair) x y) b ≡ pick s x y
 unfolding parted
 parted-reduced s x y b = refl
 
@@ -105,22 +108,18 @@ paired-reduced x y z =
 
 pub op-reduces : (h : Head) (a b r : Term) → Reduces h a b r → op h a b ≡ r
 unfolding op
-op-reduces pair a b r u = ap₂ paired (u .2) (u .3) ∙ paired-reduced r (u .0) (u .1)
+op-reduces (make pair) a b r u = ap₂ paired (u .2) (u .3) ∙ paired-reduced r (u .0) (u .1)
+op-reduces (make (encryption c)) a b r u = cancelled-reduces c (decrypt c) (make (encryption c)) u
 op-reduces (part s) a b r u = ap (λ z. parted s z b) (u .2) ∙ parted-reduced s (u .0) (u .1) b ∙ sym (u .3)
-op-reduces (encrypt c) a b r u =
-    ap (λ z. cancelled c (decrypt c) (encrypt c) z b) (u .1) ∙ cancelled-reduced c (decrypt c) (encrypt c) r (u .0) b (u .2)
-op-reduces (decrypt c) a b r u =
-    ap (λ z. cancelled c (encrypt c) (decrypt c) z b) (u .1) ∙ cancelled-reduced c (encrypt c) (decrypt c) r (u .0) b (u .2)
+op-reduces (decrypt c) a b r u = cancelled-reduces c (make (encryption c)) (decrypt c) u
 
--- ---- over messages a head that builds reduces nothing, and the machine does what the rule says
-pub message-unreduced : (h : Head) (a b r : Term) → builds h a b → Message a → Reduces h a b r → ⊥
-message-unreduced pair a b r _ p u = (subst Message (u .2) p) .0
-message-unreduced (encrypt c) a b r _ p u = (subst Message (u .1) p) .0
-message-unreduced (part s) a b r f p u = f
-message-unreduced (decrypt c) a b r f p u = f
+-- ---- over messages a form reduces nothing, and the machine does what the rule says
+message-unreduced : (f : Form) (a b r : Term) → Message a → Reduces (make f) a b r → ⊥
+message-unreduced pair a b r p u = (subst Message (u .2) p) .0
+message-unreduced (encryption c) a b r p u = (subst Message (u .1) p) .0
 
-pub op-message : (h : Head) (a b : Term) → builds h a b → Message a → op h a b ≡ node h a b
-op-message h a b f p = ⊎-elim (λ u. absurd (message-unreduced h a b (u .0) f p (u .1))) (λ e. e) (op-cases h a b)
+op-message : (f : Form) (a b : Term) → Message a → op (make f) a b ≡ node (make f) a b
+op-message f a b p = ⊎-elim (λ u. absurd (message-unreduced f a b (u .0) p (u .1))) (λ e. e) (op-cases (make f) a b)
 
 -- what holds of both parts holds of the one picked
 pub picked : (P : Term → Type 0) (s : Side) {x y : Term} → P x → P y → P (pick s x y)
@@ -128,25 +127,22 @@ picked P left a b = a
 picked P right a b = b
 
 pub step-op : (h : Head) (p q t : Term) → Step h p q t → Message p → op h p q ≡ t
-step-op pair p q t s f = op-message pair p q tt f ∙ sym s
+step-op (make f) p q t s m = op-message f p q m ∙ sym (s .1)
 step-op (part i) p q t s f = op-reduces (part i) p q t (s .0)
-step-op (encrypt c) p q t s f = op-message (encrypt c) p q (s .0) f ∙ sym (s .1)
 step-op (decrypt c) p q t s f = op-reduces (decrypt c) p q t s
 
 pub step-message : (h : Head) (p q t : Term) → Step h p q t → Message p → Message q → Message t
-step-message pair p q t s f g = subst Message (sym s) (tt, f, g)
+step-message (make k) p q t s f g = subst Message (sym (s .1)) (s .0, f, g)
 step-message (part i) p q t s f g =
     let (b, x, y) = subst Message (s .0 .2) f in
     subst Message (sym (s .0 .3)) (picked Message i x y)
-step-message (encrypt c) p q t s f g = subst Message (sym (s .1)) (s .0, f, g)
 step-message (decrypt c) p q t s f g = (subst Message (s .1) f) .1
 
 -- a step's rule and premises determine its conclusion
 pub step-det : (h : Head) (p q t u : Term) → Step h p q t → Step h p q u → t ≡ u
-step-det pair p q t u s r = cc
+step-det (make f) p q t u s r = cc
 step-det (part left) p q t u s r = cc
 step-det (part right) p q t u s r = cc
-step-det (encrypt c) p q t u s r = cc
 step-det (decrypt c) p q t u s r = cc
 
 -- ---- no step invents an atom
@@ -169,11 +165,10 @@ part-node x h a b k (inl e) = absurd (atom-not-node k e)
 part-node x h a b k (inr p) = p
 
 pub step-part : (h : Head) (p q t x : Term) → Atomic x → Step h p q t → Part x t → Part x p ⊎ Part x q
-step-part pair p q t x k s f = part-node x pair p q k (subst (Part x) s f)
+step-part (make f) p q t x k s g = part-node x (make f) p q k (subst (Part x) (s .1) g)
 step-part (part i) p q t x k s f = inl (subst (Part x) (sym (s .0 .2)) (inr (of i (subst (Part x) (s .0 .3) f))))
   where
     of : (i : Side) → Part x (pick i (s .0 .0) (s .0 .1)) → Part x (s .0 .0) ⊎ Part x (s .0 .1)
     of left g = inl g
     of right g = inr g
-step-part (encrypt c) p q t x k s f = part-node x (encrypt c) p q k (subst (Part x) (s .1) f)
 step-part (decrypt c) p q t x k s f = inl (subst (Part x) (sym (s .1)) (inr (inl f)))

@@ -1,6 +1,6 @@
 -- A table of records with no two equal and parts earlier: its numbers stand for its terms, one for one.
 use mathlib.Core.Path.{_≡_, refl, ap, ap₂, sym, _∙_, subst}
-use mathlib.Core.Logic.{_⊎_, inl, inr, ⊎-elim, by-cases}
+use mathlib.Core.Logic.{_⊎_, inl, inr, by-cases}
 use mathlib.Core.List.{[]}
 use Prim.Native.Nat.{ℕ, zero, suc, _≤_, _<_}
 use native.Mathlib.Decide.{decLt}
@@ -8,10 +8,8 @@ use native.Mathlib.Nat.{zero-add}
 use native.Mathlib.Omega.{arith}
 use lib.ListN.{getD}
 use Rattle.base.proofs.Grow.{grow-kept, grow-at}
-use Rattle.term.specs.Term.{Kind, Side, left, right, Head, pair, part, encrypt, decrypt, Term, atom, node, Match}
-use Rattle.term.specs.Reduce.{pick, op}
+use Rattle.term.specs.Term.{Kind, Head, Term, atom, node}
 use Rattle.term.specs.Table.{Rec, leaf, branch, message, void, decoded, Below, Table}
-use Rattle.term.proofs.Reduce.{Reduces, op-reduces, op-cases}
 
 -- ---- equal terms have equal numbers
 module _ {rec : ℕ → Rec} {N : ℕ} {T : ℕ → Term} (t : Table rec N T) where
@@ -67,7 +65,7 @@ module _ (rec : ℕ → Rec) (N : ℕ) where
   decoded-reads earlier n b =
       (rw (zero-add n) at (grow-at [] (λ ts n. message (λ m. getD ts m void) (rec n)) n N void b)) ∙ agree n b (rec n) (earlier n b)
 
--- ---- the record of a term, and the machine's step over numbers
+-- ---- the record of a term
 module _ {rec : ℕ → Rec} {N : ℕ} {T : ℕ → Term} (t : Table rec N T) where
   pub branch-of : (a : ℕ) → a < N → {h : Head} {r k : Term} → T a ≡ node h r k → (x y : ℕ) × (rec a ≡ branch h x y) × (T x ≡ r) × (T y ≡ k)
   branch-of a b {h} {r} {k} e = go (rec a) refl (sym (t .reads a b) ∙ e)
@@ -88,42 +86,6 @@ module _ {rec : ℕ → Rec} {N : ℕ} {T : ℕ → Term} (t : Table rec N T) wh
 
   pub part-below : (a : ℕ) → a < N → {h : Head} {x y : ℕ} → rec a ≡ branch h x y → (x < N) × (y < N)
   part-below a b e = let f = subst (Below a) e (t .earlier a b) in (omega arith, omega arith)
-
-  chosen : (i : Side) (x y : ℕ) → T (pick i x y) ≡ pick i (T x) (T y)
-  chosen left x y = refl
-  chosen right x y = refl
-
--- the reductions, read off the records: the head h over a and b is reduced to n
-abbrev pub ReducesTo : (ℕ → Rec) → (ℕ → Term) → Head → ℕ → ℕ → ℕ → Type 0
-ReducesTo rec T pair a b n = (x y m : ℕ) × (rec a ≡ branch (part left) n x) × (rec b ≡ branch (part right) m y) × (m ≡ n)
-ReducesTo rec T (part i) a b n = (x y : ℕ) × (rec a ≡ branch pair x y) × (n ≡ pick i x y)
-ReducesTo rec T (encrypt c) a b n = (k : ℕ) × (rec a ≡ branch (decrypt c) n k) × Match c (T k) (T b)
-ReducesTo rec T (decrypt c) a b n = (k : ℕ) × (rec a ≡ branch (encrypt c) n k) × Match c (T k) (T b)
-
-module _ {rec : ℕ → Rec} {N : ℕ} {T : ℕ → Term} (t : Table rec N T) where
-  up : (h : Head) (a b n : ℕ) → a < N → b < N → ReducesTo rec T h a b n → Reduces h (T a) (T b) (T n)
-  up pair a b n p q u =
-      (T (u .0), T (u .1), node-of t a p (u .3), node-of t b q (u .4) ∙ ap (λ z. node (part right) (T z) (T (u .1))) (u .5))
-  up (part i) a b n p q u = (T (u .0), T (u .1), node-of t a p (u .2), ap T (u .3) ∙ chosen t i (u .0) (u .1))
-  up (encrypt c) a b n p q u = (T (u .0), node-of t a p (u .1), u .2)
-  up (decrypt c) a b n p q u = (T (u .0), node-of t a p (u .1), u .2)
-
-  down : (h : Head) (a b : ℕ) (r : Term) → a < N → b < N → Reduces h (T a) (T b) r → (n : ℕ) × ReducesTo rec T h a b n × (T n ≡ r)
-  down pair a b r p q u =
-      let (x, x′, e, f, g) = branch-of t a p (u .2) in
-      let (y, y′, i, j, k) = branch-of t b q (u .3) in
-      (x, (x′, y′, y, e, i, decode-inj t y x (part-below t b q i .0) (part-below t a p e .0) (j ∙ sym f)), f)
-  down (part i) a b r p q u =
-      let (x, y, e, f, g) = branch-of t a p (u .2) in
-      (pick i x y, (x, y, e, refl), chosen t i x y ∙ ap₂ (pick i) f g ∙ sym (u .3))
-  down (encrypt c) a b r p q u = let (x, y, e, f, g) = branch-of t a p (u .1) in (x, (y, e, subst (λ z. Match c z (T b)) (sym g) (u .2)), f)
-  down (decrypt c) a b r p q u = let (x, y, e, f, g) = branch-of t a p (u .1) in (x, (y, e, subst (λ z. Match c z (T b)) (sym g) (u .2)), f)
-
-  pub op-reduced : (h : Head) (a b n : ℕ) → a < N → b < N → ReducesTo rec T h a b n → op h (T a) (T b) ≡ T n
-  op-reduced h a b n p q u = op-reduces h (T a) (T b) (T n) (up h a b n p q u)
-
-  pub op-formed : (h : Head) (a b : ℕ) → a < N → b < N → ((n : ℕ) → ReducesTo rec T h a b n → ⊥) → op h (T a) (T b) ≡ message T (branch h a b)
-  op-formed h a b p q f = ⊎-elim (λ u. let w = down h a b (u .0) p q (u .1) in absurd (f (w .0) (w .1))) (λ e. e) (op-cases h (T a) (T b))
 
 -- ---- one record more
 module _ {rec : ℕ → Rec} {N : ℕ} {T : ℕ → Term} (t : Table rec N T) (r : Rec) (low : Below N r) (new : (n : ℕ) → n < N → rec n ≡ r → ⊥)

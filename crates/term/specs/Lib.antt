@@ -1,5 +1,7 @@
 pub mod Code
 pub mod Fresh
+pub mod Kind
+pub mod Numbered
 pub mod Reduce
 pub mod Relation
 pub mod Rule

@@ -2,7 +2,7 @@
 -- "Each rule forms a term with its own head .. unless one of these reductions applies to it."
 use mathlib.Core.Path.{_≡_}
 use mathlib.Core.Logic.{ite, Dec·and}
-use Rattle.term.specs.Term.{plain, public, private, Cipher, symmetric, asymmetric, Side, left, right, Head, pair, part, encrypt, decrypt, Term, atom, node, head?, term?, isKey, Fits, turn, Match}
+use Rattle.term.specs.Term.{plain, public, private, Cipher, symmetric, asymmetric, Side, left, right, Form, pair, encryption, Head, make, part, decrypt, Term, atom, node, head?, term?, isKey, Fits, turn, Match}
 
 unfoldable pub isKey? : (t : Term) → Dec (isKey t)
 isKey? (atom plain n) = no (λ x. x)
@@ -29,10 +29,10 @@ cancelled c inner outer (node h x k) b = ite (Dec·and (head? h inner) (match? c
 
 -- "pair(fst t, snd t) gives t"
 unfoldable pub paired : Term → Term → Term
-paired (atom κ n) b = node pair (atom κ n) b
-paired (node h x x′) (atom κ n) = node pair (node h x x′) (atom κ n)
+paired (atom κ n) b = node (make pair) (atom κ n) b
+paired (node h x x′) (atom κ n) = node (make pair) (node h x x′) (atom κ n)
 paired (node h x x′) (node h′ y y′) =
-    ite (Dec·and (head? h (part left)) (Dec·and (head? h′ (part right)) (term? y x))) x (node pair (node h x x′) (node h′ y y′))
+    ite (Dec·and (head? h (part left)) (Dec·and (head? h′ (part right)) (term? y x))) x (node (make pair) (node h x x′) (node h′ y y′))
 
 abbrev pub pick : {A : Type 0} → Side → A → A → A
 pick left x y = x
@@ -41,11 +41,15 @@ pick right x y = y
 -- "fst and snd of a pair give the part"
 unfoldable pub parted : Side → Term → Term → Term
 parted s (atom κ n) b = node (part s) (atom κ n) b
-parted s (node h x y) b = ite (head? h pair) (pick s x y) (node (part s) (node h x y) b)
+parted s (node h x y) b = ite (head? h (make pair)) (pick s x y) (node (part s) (node h x y) b)
+
+-- the step of a rule that makes a form
+abbrev pub made : Form → Term → Term → Term
+made pair a b = paired a b
+made (encryption c) a b = cancelled c (decrypt c) (make (encryption c)) a b
 
 -- the step of the rule h on the operands a and b
 unfoldable pub op : Head → Term → Term → Term
-op pair a b = paired a b
+op (make f) a b = made f a b
 op (part s) a b = parted s a b
-op (encrypt c) a b = cancelled c (decrypt c) (encrypt c) a b
-op (decrypt c) a b = cancelled c (encrypt c) (decrypt c) a b
+op (decrypt c) a b = cancelled c (make (encryption c)) (decrypt c) a b

@@ -1,48 +1,65 @@
 -- The rules' numbers and words: document 01, the table of 'Dolev-Yao steps'. This is the one place that lists them.
-use mathlib.Core.Bool.{Bool, cond}
-use mathlib.Core.List.{List, [], _∷_}
+use mathlib.Core.Bool.{Bool, false, _&&_}
+use mathlib.Core.Option.{Option, none, some}
+use mathlib.Core.List.{List, [], _∷_, map}
 use Prim.Native.Nat.{ℕ}
-use lib.Dec.{eqb, ltb}
-use Rattle.term.specs.Term.{symmetric, asymmetric, left, right, Head, pair, part, encrypt, decrypt, single}
+use lib.Dec.{ltb}
+use lib.ListN.{length, getD}
+use Rattle.term.specs.Term.{symmetric, asymmetric, left, right, pair, encryption, Head, make, part, decrypt, head?, single, test}
+use Rattle.term.specs.Step.{takenBy}
+use Rattle.term.specs.Numbered.{place}
 
--- rules 0 to 6
+pub record Rule : Type 0 where
+  pub head : Head
+  pub word : List ℕ
+
+abbrev row : Head → List ℕ → Rule
+row h w = record { head = h; word = w }
+
+-- rules 0 to 6, with the words pair, fst, snd, enc, dec, enca, deca in ASCII
+abbrev pub table : List Rule
+table =
+    row (make pair) (0x70 ∷ 0x61 ∷ 0x69 ∷ 0x72 ∷ [])
+    ∷ row (part left) (0x66 ∷ 0x73 ∷ 0x74 ∷ [])
+    ∷ row (part right) (0x73 ∷ 0x6E ∷ 0x64 ∷ [])
+    ∷ row (make (encryption symmetric)) (0x65 ∷ 0x6E ∷ 0x63 ∷ [])
+    ∷ row (decrypt symmetric) (0x64 ∷ 0x65 ∷ 0x63 ∷ [])
+    ∷ row (make (encryption asymmetric)) (0x65 ∷ 0x6E ∷ 0x63 ∷ 0x61 ∷ [])
+    ∷ row (decrypt asymmetric) (0x64 ∷ 0x65 ∷ 0x63 ∷ 0x61 ∷ [])
+    ∷ []
+
 abbrev pub rules : ℕ
-rules = 7
+rules = length table
 
 abbrev pub isRule : ℕ → Bool
 isRule n = ltb n rules
 
+abbrev pub heads : List Head
+heads = map (λ r. r .head) table
+
+-- a number that is no rule, which checks 6 and 13 refuse, reads as deca
 unfoldable pub headOf : ℕ → Head
-headOf n =
-    cond (eqb n 0) pair
-    (cond (eqb n 1) (part left)
-    (cond (eqb n 2) (part right)
-    (cond (eqb n 3) (encrypt symmetric)
-    (cond (eqb n 4) (decrypt symmetric)
-    (cond (eqb n 5) (encrypt asymmetric)
-    (decrypt asymmetric))))))
+headOf n = getD heads n (decrypt asymmetric)
 
 -- the number of a head's rule
 abbrev pub ruleOf : Head → ℕ
-ruleOf pair = 0
-ruleOf (part left) = 1
-ruleOf (part right) = 2
-ruleOf (encrypt symmetric) = 3
-ruleOf (decrypt symmetric) = 4
-ruleOf (encrypt asymmetric) = 5
-ruleOf (decrypt asymmetric) = 6
+ruleOf h = place head? heads h
 
--- the words pair, fst, snd, enc, dec, enca, deca, in ASCII
 unfoldable pub wordOf : ℕ → List ℕ
-wordOf n =
-    cond (eqb n 0) (0x70 ∷ 0x61 ∷ 0x69 ∷ 0x72 ∷ [])
-    (cond (eqb n 1) (0x66 ∷ 0x73 ∷ 0x74 ∷ [])
-    (cond (eqb n 2) (0x73 ∷ 0x6E ∷ 0x64 ∷ [])
-    (cond (eqb n 3) (0x65 ∷ 0x6E ∷ 0x63 ∷ [])
-    (cond (eqb n 4) (0x64 ∷ 0x65 ∷ 0x63 ∷ [])
-    (cond (eqb n 5) (0x65 ∷ 0x6E ∷ 0x63 ∷ 0x61 ∷ [])
-    (0x64 ∷ 0x65 ∷ 0x63 ∷ 0x61 ∷ []))))))
+wordOf n = getD (map (λ r. r .word) table) n []
 
--- rules 1 and 2 have one premise and one register
+-- a rule with one operand has one premise and one register
 unfoldable pub hasOne : ℕ → Bool
 hasOne n = single (headOf n)
+
+-- the head h takes apart what the head b builds, computed
+abbrev pub isHead : Head → Option Head → Bool
+isHead b none = false
+isHead b (some h) = test (head? h b)
+
+abbrev pub takesApart : Head → Head → Bool
+takesApart h b = isHead b (takenBy h)
+
+-- the rule t takes apart what the rule b builds; a number that is no rule does nothing
+unfoldable pub ruleTakesApart : ℕ → ℕ → Bool
+ruleTakesApart t b = isRule t && (isRule b && takesApart (headOf t) (headOf b))

@@ -1,8 +1,9 @@
 -- Terms, keys and parts: document 01, 'The submission' and 'The register program'.
--- A term is an atom, or a head over its operands. The kinds of record that a submission lists are in the crate `submission`.
+-- A term is an atom, or a head over its operands. The numbers of kinds and rules are in `Kind` and `Rule`.
 use mathlib.Core.Path.{_≡_}
 use mathlib.Core.Logic.{_⊎_}
 use mathlib.Core.Bool.{Bool, true, false}
+use mathlib.Core.Option.{Option, none, some}
 use Prim.Native.Nat.{ℕ}
 use native.Mathlib.Decide.{ℕ-discrete}
 
@@ -20,12 +21,42 @@ pub data Side : Type 0 where
   left right : Side
   deriving Discrete as Side-discrete
 
--- The rules' words: pair; fst and snd are the two parts; enc and enca encrypt; dec and deca decrypt.
+-- what a listed compound term is made as: pair(x, y); enc(x, y) and enca(x, y)
+pub data Form : Type 0 where
+  pair : Form
+  encryption : Cipher → Form
+  deriving Discrete as Form-discrete
+
+-- the second operand of a form: none, so that its record's y is 0 and no part; any term; or a key
+pub data Second : Type 0 where
+  absent anything : Second
+  keyFor : Cipher → Second
+
+-- "4 pair(x, y); 5 enc(x, y), y a plain atom; 6 enca(x, y), y a key of kind 2 or 3"
+abbrev pub second : Form → Second
+second pair = anything
+second (encryption c) = keyFor c
+
+abbrev pub isAbsent : Second → Bool
+isAbsent absent = true
+isAbsent anything = false
+isAbsent (keyFor c) = false
+
+-- a form with one operand
+abbrev pub unary : Form → Bool
+unary f = isAbsent (second f)
+
+-- The rules' words: pair, enc and enca make a term of their form; fst and snd are the two parts; dec and deca decrypt.
 pub data Head : Type 0 where
-  pair : Head
+  make : Form → Head
   part : Side → Head
-  encrypt decrypt : Cipher → Head
+  decrypt : Cipher → Head
   deriving Discrete as Head-discrete
+
+abbrev pub single : Head → Bool
+single (make f) = unary f
+single (part s) = true
+single (decrypt c) = false
 
 -- "the rule's word over its one or two operands"; a head with one operand (`single`) holds it twice
 pub data Term : Type 0 where
@@ -33,14 +64,8 @@ pub data Term : Type 0 where
   node : Head → Term → Term → Term
   deriving Discrete as Term-discrete
 
-abbrev pub single : Head → Bool
-single pair = false
-single (part s) = true
-single (encrypt c) = false
-single (decrypt c) = false
-
 abbrev pub head? : Discrete Head
-head? = Head-discrete Side-discrete Cipher-discrete
+head? = Head-discrete (Form-discrete Cipher-discrete) Side-discrete Cipher-discrete
 
 abbrev pub term? : Discrete Term
 term? = Term-discrete Kind-discrete ℕ-discrete head?
@@ -56,10 +81,18 @@ otherKind plain = plain
 otherKind public = private
 otherKind private = public
 
+abbrev pub keyKind : Kind → Bool
+keyKind plain = false
+keyKind public = true
+keyKind private = true
+
+-- a test as a proposition that computes
+abbrev pub Holds : Bool → Type 0
+Holds true = Unit {0}
+Holds false = ⊥
+
 abbrev pub isKey : Term → Type 0
-isKey (atom plain n) = ⊥
-isKey (atom public n) = Unit {0}
-isKey (atom private n) = Unit {0}
+isKey (atom κ n) = Holds (keyKind κ)
 isKey (node h a b) = ⊥
 
 abbrev pub inverse : Term → Term
@@ -79,22 +112,55 @@ pub record Match (c : Cipher) (k j : Term) : Type 0 where
   pub fits : Fits c k
   pub turned : j ≡ turn c k
 
--- "5 enc(x, y), y a plain atom; 6 enca(x, y), y a key of kind 2 or 3": the keys of listed terms
-abbrev pub Keyed : Cipher → Term → Type 0
-Keyed symmetric (atom plain n) = Unit {0}
-Keyed symmetric (atom public n) = ⊥
-Keyed symmetric (atom private n) = ⊥
-Keyed symmetric (node h a b) = ⊥
-Keyed asymmetric k = isKey k
+-- what a term is: an atom of a kind, or made as a form; a term of another head is neither, and no record lists it
+pub data Shape : Type 0 where
+  atomic : Kind → Shape
+  compound : Form → Shape
+  deriving Discrete as Shape-discrete
+
+abbrev pub shape? : Discrete Shape
+shape? = Shape-discrete Kind-discrete (Form-discrete Cipher-discrete)
+
+abbrev pub shape : Term → Option Shape
+shape (atom κ n) = some (atomic κ)
+shape (node (make f) a b) = some (compound f)
+shape (node (part s) a b) = none
+shape (node (decrypt c) a b) = none
+
+abbrev pub isAtomic : Option Shape → Bool
+isAtomic none = false
+isAtomic (some (atomic κ)) = true
+isAtomic (some (compound f)) = false
+
+-- "y a plain atom", "y a key of kind 2 or 3". "Any plain atom may be a symmetric key (house rule)."
+abbrev pub isKeyFor : Cipher → Option Shape → Bool
+isKeyFor c none = false
+isKeyFor c (some (compound f)) = false
+isKeyFor symmetric (some (atomic κ)) = test (Kind-discrete κ plain)
+isKeyFor asymmetric (some (atomic κ)) = keyKind κ
+
+-- a term of this shape can be that operand
+abbrev pub takes : Second → Option Shape → Bool
+takes absent z = false
+takes anything z = true
+takes (keyFor c) z = isKeyFor c z
+
+-- a and b are such operands of a listed term; one that stands alone stands twice
+abbrev pub OperandsAs : Second → Term → Term → Type 0
+OperandsAs absent a b = b ≡ a
+OperandsAs anything a b = Unit {0}
+OperandsAs (keyFor c) a b = isKeyFor c (shape b) ≡ true
+
+abbrev pub Operands : Form → Term → Term → Type 0
+Operands f a b = OperandsAs (second f) a b
 
 -- the heads that build a listed term from its operands
 abbrev pub builds : Head → Term → Term → Type 0
-builds pair a b = Unit {0}
+builds (make f) a b = Operands f a b
 builds (part s) a b = ⊥
-builds (encrypt c) a b = Keyed c b
 builds (decrypt c) a b = ⊥
 
--- a term that records can list: pair, enc and enca over such terms, and no other head
+-- a term that records can list: forms over such terms, and no other head
 abbrev pub Message : Term → Type 0
 Message (atom κ n) = Unit {0}
 Message (node h a b) = builds h a b × Message a × Message b

@@ -10,7 +10,8 @@ use native.Mathlib.Omega.{arith}
 use lib.Dec.{eqb, lit≤}
 use lib.ListN.{length, take, length-append}
 use Rattle.base.proofs.Order.{lt-or-ge}
-use Rattle.term.specs.Rule.{wordOf, hasOne}
+use Rattle.term.specs.Rule.{hasOne}
+use Rattle.term.proofs.Rule.{word-length}
 use Rattle.base.specs.Answer.{done}
 use Rattle.base.specs.Bytes.{byte, Bytes}
 use Rattle.term.specs.Relation.{Relation, equal, inverse}
@@ -39,16 +40,6 @@ register-length r h = omega (arith, digits-length 2 (suc r) r h)
 picked-length : (m : ℕ) (b : Bool) (x y : List ℕ) → length x ≤ m → length y ≤ m → length (cond b x y) ≤ m
 picked-length m true x y h k = h
 picked-length m false x y h k = k
-
-word-length : (n : ℕ) → length (wordOf n) ≤ 4
-unfolding wordOf
-word-length n =
-    picked-length 4 (eqb n 0) _ _ (lit≤ tt)
-    (picked-length 4 (eqb n 1) _ _ (lit≤ tt)
-    (picked-length 4 (eqb n 2) _ _ (lit≤ tt)
-    (picked-length 4 (eqb n 3) _ _ (lit≤ tt)
-    (picked-length 4 (eqb n 4) _ _ (lit≤ tt)
-    (picked-length 4 (eqb n 5) _ _ (lit≤ tt) (lit≤ tt))))))
 
 relation-length : (o : Option Relation) → length (relationWord o) ≤ 6
 relation-length none = omega arith

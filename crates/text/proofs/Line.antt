@@ -6,7 +6,9 @@ use Prim.Native.Nat.{ℕ, _+_, _≤_}
 use native.Mathlib.Nat.{le-antisymm}
 use native.Mathlib.Numerals.{add-one}
 use borrow.Author.Tests.{ne-eqb}
-use Rattle.term.specs.Rule.{wordOf, hasOne}
+use Rattle.term.specs.Rule.{rules, wordOf, hasOne}
+use Rattle.term.proofs.Numbered.{apart-past}
+use Rattle.term.proofs.Rule.{no-word}
 use Rattle.base.specs.Answer.{done}
 use Rattle.program.specs.Tests.{relationOf, relationWord}
 use Rattle.program.specs.Program.{Instruction, Test, instructionAt, testAt}
@@ -25,9 +27,8 @@ register-put r p q = puts-then p q
 pub rule-put : {a b : List ℕ} {i j n rule : ℕ} → rule ≡ n → Puts a i (wordOf n) b j → Puts a i (wordOf rule) b j
 rule-put e p = rw e p
 
-pub last-rule-put : {a b : List ℕ} {i j rule : ℕ} → (rule ≡ 0 → ⊥) → (rule ≡ 1 → ⊥) → (rule ≡ 2 → ⊥) → (rule ≡ 3 → ⊥) → (rule ≡ 4 → ⊥) → (rule ≡ 5 → ⊥) → Puts a i (wordOf 6) b j → Puts a i (wordOf rule) b j
-unfolding wordOf
-last-rule-put {a} {b} {i} {j} {rule} e0 e1 e2 e3 e4 e5 p = simp (ne-eqb rule 0 e0, ne-eqb rule 1 e1, ne-eqb rule 2 e2, ne-eqb rule 3 e3, ne-eqb rule 4 e4, ne-eqb rule 5 e5) p
+pub no-rule-put : {a : List ℕ} {i rule : ℕ} → (rule ≡ 0 → ⊥) → (rule ≡ 1 → ⊥) → (rule ≡ 2 → ⊥) → (rule ≡ 3 → ⊥) → (rule ≡ 4 → ⊥) → (rule ≡ 5 → ⊥) → (rule ≡ 6 → ⊥) → Puts a i (wordOf rule) a i
+no-rule-put {rule = rule} e0 e1 e2 e3 e4 e5 e6 = rw (no-word rule (apart-past rules rule (((((((tt, e0), e1), e2), e3), e4), e5), e6))) puts-none
 
 module _ {a : List ℕ} {i : ℕ} (letter : ℕ) {r v : Asked} (e : relationIn r ≡ relationOf letter) (k : r ≡ v) where
   pub relation-put : {b : List ℕ} {j : ℕ} → Puts a i (relationWord (relationIn v)) b j → Puts a i (relationWord (relationOf letter)) b j

@@ -3,6 +3,7 @@
 // no other byte changes, and the result is the place reached (`Puts`).
 use base::wide16;
 use program::Asked;
+use term::rules;
 ghost use mathlib.Core.Path.{_≡_};
 ghost use mathlib.Core.List.{[], _∷_};
 ghost use Prim.Native.Nat.{_+_, _<_};
@@ -65,13 +66,14 @@ fn put_rule(out: &mut [u8], at: usize, rule: u8) -> usize
     ensures { λ r. ⌜ Puts (now (out .entry)) at (wordOf rule) (now (out .exit)) r ⌝ }
 {
     match rule {
-        0 => put_word(out, at, b"pair"),
-        1 => put_word(out, at, b"fst"),
-        2 => put_word(out, at, b"snd"),
-        3 => put_word(out, at, b"enc"),
-        4 => put_word(out, at, b"dec"),
-        5 => put_word(out, at, b"enca"),
-        _ => put_word(out, at, b"deca"),
+        rules::PAIR => put_word(out, at, b"pair"),
+        rules::FST => put_word(out, at, b"fst"),
+        rules::SND => put_word(out, at, b"snd"),
+        rules::ENC => put_word(out, at, b"enc"),
+        rules::DEC => put_word(out, at, b"dec"),
+        rules::ENCA => put_word(out, at, b"enca"),
+        rules::DECA => put_word(out, at, b"deca"),
+        _ => at,
     }
 }
 
@@ -79,7 +81,7 @@ fn put_rule(out: &mut [u8], at: usize, rule: u8) -> usize
 fn put_second(out: &mut [u8], at: usize, rule: u8, second: u8) -> usize
     ensures { λ r. ⌜ Puts (now (out .entry)) at (secondText rule second) (now (out .exit)) r ⌝ }
 {
-    if submission::has_one(rule) {
+    if rules::has_one(rule) {
         return at;
     }
     let next = put(out, at, b' ');

@@ -1,12 +1,14 @@
+-- `build` meets its contract: one law for each return.
+use native.Mathlib.Omega.{arith}
 use borrow.Author.Needs.{needs}
-use Rattle.deduction.proofs.Building.{decided-before, now-known, now-atom, now-left, now-both, x-falls, x-term, y-falls, y-term}
+use Rattle.deduction.proofs.BuildMemo.{decided-before, now-known, now-atom, now-left, now-both, x-falls, y-falls, asks}
 use Prim.Native.Nat.{ℕ, _<_}
 use borrow.Fn.Kinds.{In}
 use borrow.Fn.PlainCycle.{Measures, is, falls, and}
 use Rattle.deduction.proofs.build.Reads as build
 use Rattle.deduction.proofs.build.Kinds as build-kinds
 use Rattle.deduction.proofs.+build.Lts-build as build-lts
-use Rattle.submission.proofs.term_at.Reads as term-at-reads
+use Rattle.deduction.proofs.parts_of.Reads as parts-of-reads
 use Rattle.base.proofs.wide.Reads as wide-reads
 use Rattle.deduction.proofs.+build.{statement}
 use Rattle.deduction.proofs.+build.Tie.{close}
@@ -23,8 +25,8 @@ build-below t = and 2 build-kinds.ps (falls 2 build-kinds.ps _<_ μ-build t) bui
 build-wide-requires : (t : ℕ) → build-lts.Need-wide-requires (
   wide-reads.Asked,
   wide-reads.Learnt,
-  term-at-reads.Asked,
-  term-at-reads.Learnt,
+  parts-of-reads.Asked,
+  parts-of-reads.Learnt,
   build-below t,
   build.Post,
 ) (build-at t) build.Post
@@ -33,8 +35,8 @@ build-wide-requires t c κs = search needs
 build-element-copy-out-mark : (t : ℕ) → build-lts.Need-element-copy-out-mark (
   wide-reads.Asked,
   wide-reads.Learnt,
-  term-at-reads.Asked,
-  term-at-reads.Learnt,
+  parts-of-reads.Asked,
+  parts-of-reads.Learnt,
   build-below t,
   build.Post,
 ) (build-at t) build.Post
@@ -43,18 +45,18 @@ build-element-copy-out-mark t c = search needs
 build-returns : (t : ℕ) → build-lts.Need-returns (
   wide-reads.Asked,
   wide-reads.Learnt,
-  term-at-reads.Asked,
-  term-at-reads.Learnt,
+  parts-of-reads.Asked,
+  parts-of-reads.Learnt,
   build-below t,
   build.Post,
 ) (build-at t) build.Post
-build-returns t c = search (decided-before, now-known, now-atom, now-left, now-both, needs)
+build-returns t c = search (decided-before, needs)
 
 build-element-copy-out-if2 : (t : ℕ) → build-lts.Need-element-copy-out-if2 (
   wide-reads.Asked,
   wide-reads.Learnt,
-  term-at-reads.Asked,
-  term-at-reads.Learnt,
+  parts-of-reads.Asked,
+  parts-of-reads.Learnt,
   build-below t,
   build.Post,
 ) (build-at t) build.Post
@@ -63,8 +65,8 @@ build-element-copy-out-if2 t c = search needs
 build-element-write-out : (t : ℕ) → build-lts.Need-element-write-out (
   wide-reads.Asked,
   wide-reads.Learnt,
-  term-at-reads.Asked,
-  term-at-reads.Learnt,
+  parts-of-reads.Asked,
+  parts-of-reads.Learnt,
   build-below t,
   build.Post,
 ) (build-at t) build.Post
@@ -73,28 +75,48 @@ build-element-write-out t c = search needs
 build-returns-2 : (t : ℕ) → build-lts.Need-returns-2 (
   wide-reads.Asked,
   wide-reads.Learnt,
-  term-at-reads.Asked,
-  term-at-reads.Learnt,
+  parts-of-reads.Asked,
+  parts-of-reads.Learnt,
   build-below t,
   build.Post,
 ) (build-at t) build.Post
-build-returns-2 t c = search (decided-before, now-known, now-atom, now-left, now-both, needs)
+build-returns-2 t c = search (now-known, needs)
 
-build-term-at-requires : (t : ℕ) → build-lts.Need-term-at-requires (
+build-parts-of-requires : (t : ℕ) → build-lts.Need-parts-of-requires (
   wide-reads.Asked,
   wide-reads.Learnt,
-  term-at-reads.Asked,
-  term-at-reads.Learnt,
+  parts-of-reads.Asked,
+  parts-of-reads.Learnt,
   build-below t,
   build.Post,
 ) (build-at t) build.Post
-build-term-at-requires t c κs = search needs
+build-parts-of-requires t c κs = search needs
+
+build-enum-known-parts : (t : ℕ) → build-lts.Need-enum-known-parts (
+  wide-reads.Asked,
+  wide-reads.Learnt,
+  parts-of-reads.Asked,
+  parts-of-reads.Learnt,
+  build-below t,
+  build.Post,
+) (build-at t) build.Post
+build-enum-known-parts t c = search needs
+
+build-enum-told : (t : ℕ) → build-lts.Need-enum-told (
+  wide-reads.Asked,
+  wide-reads.Learnt,
+  parts-of-reads.Asked,
+  parts-of-reads.Learnt,
+  build-below t,
+  build.Post,
+) (build-at t) build.Post
+build-enum-told t c = search needs
 
 build-element-write-out-2 : (t : ℕ) → build-lts.Need-element-write-out-2 (
   wide-reads.Asked,
   wide-reads.Learnt,
-  term-at-reads.Asked,
-  term-at-reads.Learnt,
+  parts-of-reads.Asked,
+  parts-of-reads.Learnt,
   build-below t,
   build.Post,
 ) (build-at t) build.Post
@@ -103,28 +125,28 @@ build-element-write-out-2 t c = search needs
 build-returns-3 : (t : ℕ) → build-lts.Need-returns-3 (
   wide-reads.Asked,
   wide-reads.Learnt,
-  term-at-reads.Asked,
-  term-at-reads.Learnt,
+  parts-of-reads.Asked,
+  parts-of-reads.Learnt,
   build-below t,
   build.Post,
 ) (build-at t) build.Post
-build-returns-3 t c = search (decided-before, now-known, now-atom, now-left, now-both, needs)
+build-returns-3 t c = search (now-atom, needs)
 
 build-build-requires : (t : ℕ) → build-lts.Need-build-requires (
   wide-reads.Asked,
   wide-reads.Learnt,
-  term-at-reads.Asked,
-  term-at-reads.Learnt,
+  parts-of-reads.Asked,
+  parts-of-reads.Learnt,
   build-below t,
   build.Post,
 ) (build-at t) build.Post
-build-build-requires t c κs = search (x-falls, x-term, needs)
+build-build-requires t c κs = asks (search (x-falls, needs)) (omega arith) (search needs) (search needs)
 
 build-wide-requires-2 : (t : ℕ) → build-lts.Need-wide-requires-2 (
   wide-reads.Asked,
   wide-reads.Learnt,
-  term-at-reads.Asked,
-  term-at-reads.Learnt,
+  parts-of-reads.Asked,
+  parts-of-reads.Learnt,
   build-below t,
   build.Post,
 ) (build-at t) build.Post
@@ -133,8 +155,8 @@ build-wide-requires-2 t c κs = search needs
 build-element-copy-out-first : (t : ℕ) → build-lts.Need-element-copy-out-first (
   wide-reads.Asked,
   wide-reads.Learnt,
-  term-at-reads.Asked,
-  term-at-reads.Learnt,
+  parts-of-reads.Asked,
+  parts-of-reads.Learnt,
   build-below t,
   build.Post,
 ) (build-at t) build.Post
@@ -143,8 +165,8 @@ build-element-copy-out-first t c = search needs
 build-element-write-left : (t : ℕ) → build-lts.Need-element-write-left (
   wide-reads.Asked,
   wide-reads.Learnt,
-  term-at-reads.Asked,
-  term-at-reads.Learnt,
+  parts-of-reads.Asked,
+  parts-of-reads.Learnt,
   build-below t,
   build.Post,
 ) (build-at t) build.Post
@@ -153,28 +175,28 @@ build-element-write-left t c = search needs
 build-returns-4 : (t : ℕ) → build-lts.Need-returns-4 (
   wide-reads.Asked,
   wide-reads.Learnt,
-  term-at-reads.Asked,
-  term-at-reads.Learnt,
+  parts-of-reads.Asked,
+  parts-of-reads.Learnt,
   build-below t,
   build.Post,
 ) (build-at t) build.Post
-build-returns-4 t c = search (decided-before, now-known, now-atom, now-left, now-both, needs)
+build-returns-4 t c = search (now-left, needs)
 
 build-build-requires-2 : (t : ℕ) → build-lts.Need-build-requires-2 (
   wide-reads.Asked,
   wide-reads.Learnt,
-  term-at-reads.Asked,
-  term-at-reads.Learnt,
+  parts-of-reads.Asked,
+  parts-of-reads.Learnt,
   build-below t,
   build.Post,
 ) (build-at t) build.Post
-build-build-requires-2 t c κs = search (y-falls, y-term, needs)
+build-build-requires-2 t c κs = asks (search (y-falls, needs)) (omega arith) (search needs) (search needs)
 
 build-wide-requires-3 : (t : ℕ) → build-lts.Need-wide-requires-3 (
   wide-reads.Asked,
   wide-reads.Learnt,
-  term-at-reads.Asked,
-  term-at-reads.Learnt,
+  parts-of-reads.Asked,
+  parts-of-reads.Learnt,
   build-below t,
   build.Post,
 ) (build-at t) build.Post
@@ -183,8 +205,8 @@ build-wide-requires-3 t c κs = search needs
 build-element-copy-out-second : (t : ℕ) → build-lts.Need-element-copy-out-second (
   wide-reads.Asked,
   wide-reads.Learnt,
-  term-at-reads.Asked,
-  term-at-reads.Learnt,
+  parts-of-reads.Asked,
+  parts-of-reads.Learnt,
   build-below t,
   build.Post,
 ) (build-at t) build.Post
@@ -193,8 +215,8 @@ build-element-copy-out-second t c = search needs
 build-element-write-both : (t : ℕ) → build-lts.Need-element-write-both (
   wide-reads.Asked,
   wide-reads.Learnt,
-  term-at-reads.Asked,
-  term-at-reads.Learnt,
+  parts-of-reads.Asked,
+  parts-of-reads.Learnt,
   build-below t,
   build.Post,
 ) (build-at t) build.Post
@@ -203,19 +225,19 @@ build-element-write-both t c = search needs
 build-returns-5 : (t : ℕ) → build-lts.Need-returns-5 (
   wide-reads.Asked,
   wide-reads.Learnt,
-  term-at-reads.Asked,
-  term-at-reads.Learnt,
+  parts-of-reads.Asked,
+  parts-of-reads.Learnt,
   build-below t,
   build.Post,
 ) (build-at t) build.Post
-build-returns-5 t c = search (decided-before, now-known, now-atom, now-left, now-both, needs)
+build-returns-5 t c = search (now-both, needs)
 
 pub +build-spec : {M : Type 1} → statement M
 +build-spec = close μ-build λ t. build-lts.spec (
   wide-reads.Asked,
   wide-reads.Learnt,
-  term-at-reads.Asked,
-  term-at-reads.Learnt,
+  parts-of-reads.Asked,
+  parts-of-reads.Learnt,
   build-below t,
   build.Post,
 )
@@ -227,7 +249,9 @@ pub +build-spec : {M : Type 1} → statement M
     (build-element-copy-out-if2 t)
     (build-element-write-out t)
     (build-returns-2 t)
-    (build-term-at-requires t)
+    (build-parts-of-requires t)
+    (build-enum-known-parts t)
+    (build-enum-told t)
     (build-element-write-out-2 t)
     (build-returns-3 t)
     (build-build-requires t)

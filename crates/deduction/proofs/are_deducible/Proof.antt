@@ -1,5 +1,6 @@
-use Rattle.deduction.proofs.Building.{memo-none}
-use Rattle.deduction.proofs.Sweeping.{first-not, first-yes}
+-- `are_deducible` meets its contract: each answer is the build test over saturated marks.
+use Rattle.deduction.proofs.BuildMemo.{memo-none}
+use Rattle.deduction.proofs.CallReturns.{first-not, first-yes}
 use borrow.Author.Needs.{needs}
 use Rattle.deduction.proofs.are_deducible.Statement.{statement}
 use Rattle.deduction.proofs.are_deducible.Tie as tie

@@ -1,6 +1,7 @@
+-- `deducible` meets its contract: each stage of the call gives its answer.
 use native.Mathlib.Omega.{arith}
 use Rattle.base.proofs.StageLaws.{bytes}
-use Rattle.deduction.proofs.Answering.{read, check-refused, no-term, answer-yes, answer-no}
+use Rattle.deduction.proofs.CallReturns.{read, check-refused, no-term, answer-yes, answer-no}
 use borrow.Author.Needs.{needs}
 use Rattle.deduction.proofs.deducible.Statement.{statement}
 use Rattle.deduction.proofs.deducible.Tie as tie

@@ -1,8 +1,12 @@
-use Rattle.deduction.proofs.Building.{memo-none}
-use Rattle.deduction.proofs.Sweeping.{said}
+-- `is_deducible` meets its contract: the build test over the saturated knowledge.
+use Rattle.deduction.proofs.BuildMemo.{memo-none}
+use Rattle.deduction.proofs.CallReturns.{said-known}
 use borrow.Author.Needs.{needs}
 use Rattle.deduction.proofs.is_deducible.Statement.{statement}
 use Rattle.deduction.proofs.is_deducible.Tie as tie
+
+knowledge-marks-requires : tie.Need-knowledge-marks-requires
+knowledge-marks-requires c κs = search needs
 
 saturated-requires : tie.Need-saturated-requires
 saturated-requires c κs = search needs
@@ -17,9 +21,15 @@ element-copy-out-result : tie.Need-element-copy-out-result
 element-copy-out-result c = search needs
 
 returns : tie.Need-returns
-returns c = search (said, needs)
+returns c = search (said-known, needs)
 
 pub is-deducible-spec : {M : Type 1} → statement M
 is-deducible-spec =
     tie.close
-    (tie.spec saturated-requires build-requires wide-requires element-copy-out-result returns)
+    (tie.spec
+    knowledge-marks-requires
+    saturated-requires
+    build-requires
+    wide-requires
+    element-copy-out-result
+    returns)

@@ -1,6 +1,5 @@
-use Prim.Native.Nat.{_<_}
-use native.Mathlib.Omega.{arith}
-use Rattle.deduction.proofs.Sweeping.{opened-yes, opened-no}
+-- `opened` meets its contract: the body is marked where the key can be built.
+use Rattle.deduction.proofs.RoundLaws.{opened-yes, opened-no}
 use borrow.Author.Needs.{needs}
 use Rattle.deduction.proofs.opened.Statement.{statement}
 use Rattle.deduction.proofs.opened.Tie as tie
@@ -18,7 +17,7 @@ mark-requires : tie.Need-mark-requires
 mark-requires c κs = search needs
 
 returns : tie.Need-returns
-returns c = let h : c .before .before .before .before .before .before .before .before .args .body < 256 = omega arith in search (opened-yes, needs)
+returns c = search (opened-yes, needs)
 
 returns-2 : tie.Need-returns-2
 returns-2 c = search (opened-no, needs)

@@ -1,5 +1,6 @@
 -- `is_step_bad` is check 6 of a step, one test at a time.
-use Rattle.derivation.proofs.Shape.{bad-rule, bad-first, bad-second, bad-conclusion, bad-shape}
+use Rattle.derivation.proofs.Shape.{bad-rule, good-rule, bad-first, bad-second, bad-conclusion, bad-shape}
+use borrow.Author.Tests.{not-true, not-false}
 use borrow.Author.Needs.{needs}
 use Rattle.derivation.proofs.is_step_bad.Statement.{statement}
 use Rattle.derivation.proofs.is_step_bad.Tie as tie
@@ -10,8 +11,11 @@ step-at-requires c κs = search needs
 terms-requires : tie.Need-terms-requires
 terms-requires c κs = search needs
 
+is-rule-requires : tie.Need-is-rule-requires
+is-rule-requires c κs = search needs
+
 returns : tie.Need-returns
-returns c = search bad-rule
+returns c = search (bad-rule, not-true)
 
 returns-2 : tie.Need-returns-2
 returns-2 c = search bad-first
@@ -23,10 +27,10 @@ returns-4 : tie.Need-returns-4
 returns-4 c = search bad-conclusion
 
 follows-requires : tie.Need-follows-requires
-follows-requires c κs = search needs
+follows-requires c κs = search (good-rule, not-false)
 
 returns-5 : tie.Need-returns-5
-returns-5 c = search bad-shape
+returns-5 c = search (bad-shape, good-rule, not-false)
 
 pub is-step-bad-spec : {M : Type 1} → statement M
 is-step-bad-spec =
@@ -34,6 +38,7 @@ is-step-bad-spec =
     (tie.spec
     step-at-requires
     terms-requires
+    is-rule-requires
     returns
     returns-2
     returns-3

@@ -1,5 +1,6 @@
 -- `initial` meets its contract: the guess's atom goes to the next register.
-use Rattle.machine.proofs.theory.StartState.{guess-fits, guess-fit, guess-space, guess-started}
+use Rattle.machine.proofs.theory.StartState.{guess-fits, guess-room, guess-space, guess-started}
+use native.Mathlib.Nat.{le-of-lt}
 use borrow.Author.Needs.{needs}
 use Rattle.machine.proofs.initial.Statement.{statement}
 use Rattle.machine.proofs.initial.Tie as tie
@@ -13,14 +14,14 @@ claim-bytes-requires c κs = search needs
 term-at-requires : tie.Need-term-at-requires
 term-at-requires c κs = search needs
 
-add-t8 : tie.Need-add-t8
-add-t8 c = search guess-fits
+add-t9 : tie.Need-add-t9
+add-t9 c = search guess-fits
 
-intern-requires : tie.Need-intern-requires
-intern-requires c κs = search guess-fit
+find-requires : tie.Need-find-requires
+find-requires c κs = (search needs, search (le-of-lt, guess-room))
 
-with-register-requires : tie.Need-with-register-requires
-with-register-requires c κs = (search needs, (search needs, search guess-space))
+with-value-requires : tie.Need-with-value-requires
+with-value-requires c κs = (search guess-room, search guess-space)
 
 returns : tie.Need-returns
 returns c = search guess-started
@@ -32,7 +33,7 @@ initial-spec =
     with-knowledge-requires
     claim-bytes-requires
     term-at-requires
-    add-t8
-    intern-requires
-    with-register-requires
+    add-t9
+    find-requires
+    with-value-requires
     returns)

@@ -1,5 +1,4 @@
--- `node_of` meets its contract: three compound kinds, and atoms.
-use Rattle.term.specs.Term.{symmetric, asymmetric, pair, encrypt}
+-- `node_of` meets its contract: an atom, or a compound term.
 use Rattle.machine.proofs.theory.StartState.{node-compound, node-atomic, atom-kind-fits}
 use borrow.Author.Needs.{needs}
 use Rattle.machine.proofs.node_of.Statement.{statement}
@@ -11,29 +10,35 @@ term-at-requires c κs = search needs
 wide16-requires : tie.Need-wide16-requires
 wide16-requires c κs = search needs
 
+is-atom-requires : tie.Need-is-atom-requires
+is-atom-requires c κs = search needs
+
 wide16-requires-2 : tie.Need-wide16-requires-2
 wide16-requires-2 c κs = search needs
 
-add-t8 : tie.Need-add-t8
-add-t8 c = search atom-kind-fits
+add-t9 : tie.Need-add-t9
+add-t9 c = search atom-kind-fits
 
-mul-t9 : tie.Need-mul-t9
-mul-t9 c = search needs
+mul-t10 : tie.Need-mul-t10
+mul-t10 c = search needs
 
-add-t10 : tie.Need-add-t10
-add-t10 c = search needs
+add-t11 : tie.Need-add-t11
+add-t11 c = search needs
 
 returns : tie.Need-returns
-returns c = search (node-compound pair tt)
+returns c = search node-atomic
+
+second-part-requires : tie.Need-second-part-requires
+second-part-requires c κs = search needs
+
+rule-of-requires : tie.Need-rule-of-requires
+rule-of-requires c κs = search needs
+
+wide16-requires-3 : tie.Need-wide16-requires-3
+wide16-requires-3 c κs = search needs
 
 returns-2 : tie.Need-returns-2
-returns-2 c = search (node-compound (encrypt symmetric) tt)
-
-returns-3 : tie.Need-returns-3
-returns-3 c = search (node-compound (encrypt asymmetric) tt)
-
-returns-4 : tie.Need-returns-4
-returns-4 c = search node-atomic
+returns-2 c = search node-compound
 
 pub node-of-spec : {M : Type 1} → statement M
 node-of-spec =
@@ -41,11 +46,13 @@ node-of-spec =
     (tie.spec
     term-at-requires
     wide16-requires
+    is-atom-requires
     wide16-requires-2
-    add-t8
-    mul-t9
-    add-t10
+    add-t9
+    mul-t10
+    add-t11
     returns
-    returns-2
-    returns-3
-    returns-4)
+    second-part-requires
+    rule-of-requires
+    wide16-requires-3
+    returns-2)

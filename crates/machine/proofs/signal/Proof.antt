@@ -1,5 +1,5 @@
 -- `signal` meets its contract, a law for each relation.
-use Rattle.machine.proofs.theory.RunAnswer.{left-below, right-below, signal-equal, signal-inverse, signal-none}
+use Rattle.machine.proofs.theory.RunAnswer.{left-in, right-in, signal-equal, signal-inverse, signal-none}
 use borrow.Author.Needs.{needs}
 use Rattle.machine.proofs.signal.Statement.{statement}
 use Rattle.machine.proofs.signal.Tie as tie
@@ -25,6 +25,12 @@ mul-b c = search needs
 element-copy-out-b : tie.Need-element-copy-out-b
 element-copy-out-b c = search needs
 
+node-at-requires : tie.Need-node-at-requires
+node-at-requires c κs = search left-in
+
+node-at-requires-2 : tie.Need-node-at-requires-2
+node-at-requires-2 c κs = search right-in
+
 relation-of-requires : tie.Need-relation-of-requires
 relation-of-requires c κs = search needs
 
@@ -37,8 +43,8 @@ bit-requires c κs = search needs
 enum-told-2 : tie.Need-enum-told-2
 enum-told-2 c = search needs
 
-do-match-requires : tie.Need-do-match-requires
-do-match-requires c κs = (search needs, (search left-below, (search right-below, search needs)))
+are-inverse-requires : tie.Need-are-inverse-requires
+are-inverse-requires c κs = search needs
 
 bit-requires-2 : tie.Need-bit-requires-2
 bit-requires-2 c κs = search needs
@@ -66,11 +72,13 @@ signal-spec =
     element-copy-out-a
     mul-b
     element-copy-out-b
+    node-at-requires
+    node-at-requires-2
     relation-of-requires
     enum-told
     bit-requires
     enum-told-2
-    do-match-requires
+    are-inverse-requires
     bit-requires-2
     enum-told-3
     returns

@@ -1,90 +1,106 @@
--- One instruction over the registers: the nodes it reads, and the term that goes to the next register.
+-- One instruction over the registers: the nodes that it reads, and the term that goes to the next register, a law for each case.
 use mathlib.Core.Path.{_≡_, refl, sym, ap, _∙_}
-use mathlib.Core.Bool.{true, cond}
+use mathlib.Core.Bool.{_&&_}
 use Prim.Native.Nat.{ℕ, _<_}
 use native.Mathlib.Omega.{arith}
+use lib.Dec.{eqb}
 use lib.ListN.{getD}
 use Rattle.base.proofs.Grow.{listed-at}
-use Rattle.term.specs.Term.{Cipher, symmetric, asymmetric, Side, left, right, part, Term}
+use Rattle.term.specs.Term.{Side, pair, encryption, Head, make, part, decrypt, Term}
 use Rattle.term.specs.Table.{void}
-use Rattle.term.specs.Reduce.{cancelled, paired, parted, op}
-use Rattle.term.specs.Rule.{rules, headOf, hasOne}
+use Rattle.term.specs.Reduce.{op, cancelled, pick}
+use Rattle.term.specs.Rule.{rules, headOf, ruleOf}
+use Rattle.term.proofs.Numbered.{Apart}
+use Rattle.term.proofs.Rule.{head-rule}
 use Rattle.machine.specs.declared.Machine.{Machine}
+use Rattle.machine.specs.declared.Operands.{Operands}
+use Rattle.machine.specs.declared.Found.{Found}
+use Rattle.machine.specs.declared.Found.the-variants.{Nothing}
+use Rattle.machine.specs.declared.Cipher.{Cipher}
 use Rattle.program.specs.Program.{Instruction, operand}
 use Rattle.machine.specs.Run.{executed}
-use Rattle.machine.specs.Code.{termAt, register, values, Ready, Gives, Executable}
+use Rattle.machine.specs.Code.{nodeIn, operandsIn, termAt, register, values, partsOfOne, matchNodes, when, resultOf, Valued, Gives, Executable}
+use Rattle.machine.proofs.theory.KeyNodes.{cipherOf}
+use Rattle.machine.proofs.theory.NodeReductions.{Ready, Reduct, right-part-in, result-gives, joined-reduct, parted-reduct, cancelled-reduct, other-reduct}
 
 -- the value of a register
 pub value-at : (m : Machine) (r : ℕ) → r < m .used → getD (values m) r void ≡ termAt m (register m r)
 unfolding values
 value-at m r l = listed-at (λ r. termAt m (register m r)) r (m .used) void l
 
--- ---- which rule reduces which: n parts a pair, n cancels k
-pub record Parts (s : Side) (n : ℕ) : Type 0 where
-  pub head : headOf n ≡ part s
-  pub one : hasOne n ≡ true
-
-pub fst-parts : Parts left 1
-unfolding headOf hasOne
-fst-parts = record { head = refl; one = refl }
-
-pub snd-parts : Parts right 2
-unfolding headOf hasOne
-snd-parts = record { head = refl; one = refl }
-
-pub record Cancels (c : Cipher) (k n : ℕ) : Type 0 where
-  pub steps : (a b : Term) → op (headOf n) a b ≡ cancelled c (headOf k) (headOf n) a b
-
-pub enc-cancels : Cancels symmetric 4 3
-unfolding op headOf
-enc-cancels = record { steps = λ a b. refl }
-
-pub dec-cancels : Cancels symmetric 3 4
-unfolding op headOf
-dec-cancels = record { steps = λ a b. refl }
-
-pub enca-cancels : Cancels asymmetric 6 5
-unfolding op headOf
-enca-cancels = record { steps = λ a b. refl }
-
-pub deca-cancels : Cancels asymmetric 5 6
-unfolding op headOf
-deca-cancels = record { steps = λ a b. refl }
-
-pub last-rule : (n : ℕ) → n < rules → (n ≡ 0 → ⊥) → (n ≡ 1 → ⊥) → (n ≡ 2 → ⊥) → (n ≡ 3 → ⊥) → (n ≡ 4 → ⊥) → (n ≡ 5 → ⊥) → n ≡ 6
-last-rule n l a b c d e f = omega arith
+-- the instruction i reads the nodes a and b in the state m
+pub record Reads (m : Machine) (i : Instruction) (a b : ℕ) : Type 0 where
+  pub ready : Ready m a b
+  pub rule : i .rule < rules
+  pub is : executed (values m) i ≡ op (headOf (i .rule)) (termAt m a) (termAt m b)
 
 -- ---- an instruction
 module _ {m : Machine} {i : Instruction} {p q o : ℕ} (w : Executable m i) (e : p ≡ i .left) (f : q ≡ o) (g : o ≡ operand i) where
-  first-below : register m p < m .nodes
-  first-below = rw e (w .sound .written _ (w .left))
+  pub left-below : getD (m .registers) p 0 < m .nodes
+  left-below = rw e (w .sound .written _ (w .left))
 
-  second-below : register m q < m .nodes
-  second-below = rw (f, g) (w .sound .written _ (w .right))
+  right-below : getD (m .registers) q 0 < m .nodes
+  right-below = rw (f, g) (w .sound .written _ (w .right))
 
-  pub operands-ready : Ready m (getD (m .registers) p 0) (getD (m .registers) q 0)
-  operands-ready = record { sound = w .sound; left = first-below; right = second-below; room = w .room; space = w .space }
+  pub left-in : getD (m .registers) p 0 < 384
+  left-in = omega (arith, left-below, w .room)
 
-  pub operand-ready : Ready m (getD (m .registers) p 0) (getD (m .registers) p 0)
-  operand-ready = record { sound = w .sound; left = first-below; right = first-below; room = w .room; space = w .space }
+  pub right-in : getD (m .registers) q 0 < 384
+  right-in = omega (arith, right-below, w .room)
 
-  module _ {r : Machine} where
-    applied : (n : ℕ) → i .rule ≡ n → Gives m (op (headOf n) (termAt m (register m p)) (termAt m (register m q))) r → Gives m (executed (values m) i) r
-    unfolding executed
-    applied n k d =
-        let t : executed (values m) i ≡ op (headOf n) (termAt m (register m p)) (termAt m (register m q)) = cc (value-at m (i .left) (w .left), value-at m (operand i) (w .right)) in
-        rw t d
+  pub key-in : nodeIn m (getD (m .registers) p 0) .right < 384
+  key-in = right-part-in m (register m p) (w .sound) left-below (w .room)
 
-    pub step-pair : i .rule ≡ 0 → Gives m (paired (termAt m (getD (m .registers) p 0)) (termAt m (getD (m .registers) q 0))) r → Gives m (executed (values m) i) r
-    unfolding op headOf
-    step-pair k d = applied 0 k d
+  pub operands-read : Reads m i (getD (m .registers) p 0) (getD (m .registers) q 0)
+  unfolding executed
+  operands-read = record {
+    ready = record { sound = w .sound; left = left-below; right = right-below };
+    rule = w .rule;
+    is = cc (value-at m (i .left) (w .left), value-at m (operand i) (w .right));
+  }
 
-    pub step-part : {s : Side} {n : ℕ} → Parts s n → i .rule ≡ n → Gives m (parted s (termAt m (getD (m .registers) p 0)) (termAt m (getD (m .registers) p 0))) r → Gives m (executed (values m) i) r
-    unfolding op
-    step-part {s} {n} z k d =
-        let h : q ≡ p = f ∙ g ∙ ap (λ b. cond b (i .left) (i .right)) (ap hasOne k ∙ z .one) ∙ sym e in
-        applied n k (rw (z .head, h) d)
+-- ---- the result, by what the rule's word over the two nodes reduces to
+module _ {m : Machine} {i : Instruction} {a b : ℕ} {x : Found} {r : Machine} where
+  result : (h : Head) → headOf (i .rule) ≡ h → Valued m (record { head = i .rule; left = a; right = b }) (resultOf m (record { head = i .rule; left = a; right = b }) x) r →
+      Reads m i a b → Reduct m h a b x → Gives m (executed (values m) i) r
+  result h j v w d = rw (w .is) (result-gives (w .ready) (w .rule) x (rw j d) v)
 
-    pub step-cancel : {c : Cipher} {k n : ℕ} → Cancels c k n → i .rule ≡ n →
-        Gives m (cancelled c (headOf k) (headOf n) (termAt m (getD (m .registers) p 0)) (termAt m (getD (m .registers) q 0))) r → Gives m (executed (values m) i) r
-    step-cancel {n = n} z j d = applied n j (rw (z .steps) d)
+  result-by : (h : Head) → i .rule ≡ ruleOf h → Valued m (record { head = i .rule; left = a; right = b }) (resultOf m (record { head = i .rule; left = a; right = b }) x) r →
+      Reads m i a b → Reduct m h a b x → Gives m (executed (values m) i) r
+  result-by h j = result h (ap headOf j ∙ head-rule h)
+
+pub step-pair : {m : Machine} {i : Instruction} {a b : ℕ} {o : Operands} {x : Found} {r : Machine} →
+    Valued m (record { head = i .rule; left = a; right = b }) (resultOf m (record { head = i .rule; left = a; right = b }) x) r → Reads m i a b →
+    i .rule ≡ ruleOf (make pair) → x ≡ when (partsOfOne (o .left) (o .right)) (o .left .left) → o ≡ operandsIn m a b → Gives m (executed (values m) i) r
+step-pair v w j q u = result-by (make pair) j v w (joined-reduct (w .ready) u q)
+
+pub step-part : (s : Side) {m : Machine} {i : Instruction} {a b : ℕ} {o : Operands} {x : Found} {r : Machine} →
+    Valued m (record { head = i .rule; left = a; right = b }) (resultOf m (record { head = i .rule; left = a; right = b }) x) r → Reads m i a b →
+    i .rule ≡ ruleOf (part s) → x ≡ when (eqb (o .left .head) (ruleOf (make pair))) (pick s (o .left .left) (o .left .right)) → o ≡ operandsIn m a b → Gives m (executed (values m) i) r
+step-part s v w j q u = result-by (part s) j v w (parted-reduct (w .ready) u s q)
+
+-- the head h cancels the head g
+step-cancel : (c : Cipher) (g h : Head) → ((a b : Term) → op h a b ≡ cancelled (cipherOf c) g h a b) → {m : Machine} {i : Instruction} {a b : ℕ} {o : Operands} {x : Found} {r : Machine} →
+    Valued m (record { head = i .rule; left = a; right = b }) (resultOf m (record { head = i .rule; left = a; right = b }) x) r → Reads m i a b →
+    i .rule ≡ ruleOf h → x ≡ when (eqb (o .left .head) (ruleOf g) && matchNodes c (o .left .right) b (o .key) (o .right)) (o .left .left) → o ≡ operandsIn m a b → Gives m (executed (values m) i) r
+step-cancel c g h z v w j q u = result-by h j v w (cancelled-reduct (w .ready) u c g h z q)
+
+pub step-encrypt : (c : Cipher) {m : Machine} {i : Instruction} {a b : ℕ} {o : Operands} {x : Found} {r : Machine} →
+    Valued m (record { head = i .rule; left = a; right = b }) (resultOf m (record { head = i .rule; left = a; right = b }) x) r → Reads m i a b →
+    i .rule ≡ ruleOf (make (encryption (cipherOf c))) →
+    x ≡ when (eqb (o .left .head) (ruleOf (decrypt (cipherOf c))) && matchNodes c (o .left .right) b (o .key) (o .right)) (o .left .left) → o ≡ operandsIn m a b → Gives m (executed (values m) i) r
+unfolding op
+step-encrypt c = step-cancel c (decrypt (cipherOf c)) (make (encryption (cipherOf c))) (λ a b. refl)
+
+pub step-decrypt : (c : Cipher) {m : Machine} {i : Instruction} {a b : ℕ} {o : Operands} {x : Found} {r : Machine} →
+    Valued m (record { head = i .rule; left = a; right = b }) (resultOf m (record { head = i .rule; left = a; right = b }) x) r → Reads m i a b →
+    i .rule ≡ ruleOf (decrypt (cipherOf c)) →
+    x ≡ when (eqb (o .left .head) (ruleOf (make (encryption (cipherOf c)))) && matchNodes c (o .left .right) b (o .key) (o .right)) (o .left .left) → o ≡ operandsIn m a b → Gives m (executed (values m) i) r
+unfolding op
+step-decrypt c = step-cancel c (make (encryption (cipherOf c))) (decrypt (cipherOf c)) (λ a b. refl)
+
+-- a rule without a reduction
+pub step-form : {n : ℕ} → Apart n 7 → {m : Machine} {i : Instruction} {a b : ℕ} {r : Machine} →
+    Valued m (record { head = i .rule; left = a; right = b }) (resultOf m (record { head = i .rule; left = a; right = b }) Nothing) r → Reads m i a b →
+    n ≡ i .rule → Gives m (executed (values m) i) r
+step-form {n} z {i = i} v w j = result (headOf n) (ap headOf (sym j)) v w (other-reduct z (rw j (w .rule)))

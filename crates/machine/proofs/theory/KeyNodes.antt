@@ -6,31 +6,32 @@ use Prim.Native.Nat.{ℕ, _+_, _<_}
 use lib.Dec.{eqb}
 use borrow.Author.Tests.{eq-eqb, eqb-true}
 use Rattle.base.proofs.Says.{Says, says-eqb, says-and, says-or, same-test}
+use Rattle.term.specs.Term as words
 use Rattle.term.specs.Term.{Kind, plain, public, private, otherKind, symmetric, asymmetric, Term, atom, node, inverse, isKey, test, term?, Match}
 use Rattle.term.specs.Reduce.{match?}
 use Rattle.term.proofs.Reduce.{says-test}
 use Rattle.term.proofs.Table.{decode-inj}
-use Rattle.submission.specs.Record.{kindOf, atomic}
 use Rattle.machine.specs.declared.Node.{Node}
 use Rattle.machine.specs.declared.Machine.{Machine}
 use Rattle.machine.specs.declared.Cipher.{Cipher}
 use Rattle.machine.specs.declared.Cipher.the-variants.{Symmetric, Asymmetric}
-use Rattle.machine.specs.Code.{cipherOf, nodeIn, inverseNodes, termAt, SoundState}
+use Rattle.machine.specs.Code.{atomHead, nodeIn, inverseNodes, matchNodes, termAt, SoundState}
 use Rattle.machine.proofs.theory.NodeRecords.{atom-term, atom-node}
+
+abbrev pub cipherOf : Cipher → words.Cipher
+cipherOf Symmetric = symmetric
+cipherOf Asymmetric = asymmetric
 
 -- a test that says what was decided is that decision
 decided : {P : Type 0} {b : Bool} (d : Dec P) → Says b P → b ≡ test d
 decided {b = b} d w = same-test b (test d) w (says-test d)
 
 module _ {m : Machine} {k j : ℕ} (w : SoundState m) (l : k < m .nodes) (n : j < m .nodes) where
-  pub one-key : {c : Cipher} → c ≡ Symmetric → eqb k j ≡ test (match? (cipherOf c) (termAt m k) (termAt m j))
-  one-key q = rw q (decided (match? symmetric _ _) (λ e. record { fits = tt; turned = sym (ap (termAt m) (eqb-true k j e)) }, λ u. eq-eqb k j (sym (decode-inj (w .table) j k n l (u .turned)))))
-
   pub one-term : eqb k j ≡ test (term? (termAt m j) (termAt m k))
   one-term = decided (term? _ _) (λ e. sym (ap (termAt m) (eqb-true k j e)), λ u. eq-eqb k j (sym (decode-inj (w .table) j k n l u)))
 
   -- a key's node, and its inverse's
-  of-kind : (κ : Kind) → isKey (atom κ 0) → nodeIn m k .head ≡ 128 + kindOf (atomic κ) → nodeIn m j .head ≡ 128 + kindOf (atomic (otherKind κ)) → nodeIn m k .left ≡ nodeIn m j .left →
+  of-kind : (κ : Kind) → isKey (atom κ 0) → nodeIn m k .head ≡ atomHead κ → nodeIn m j .head ≡ atomHead (otherKind κ) → nodeIn m k .left ≡ nodeIn m j .left →
       Match asymmetric (termAt m k) (termAt m j)
   of-kind κ i a b q =
       let t = atom-term w l κ a in
@@ -42,7 +43,7 @@ module _ {m : Machine} {k j : ℕ} (w : SoundState m) (l : k < m .nodes) (n : j 
       named private x i = i
 
   heads-of : (t : Term) → termAt m k ≡ t → isKey t → termAt m j ≡ inverse t →
-      (((nodeIn m k .head ≡ 130) × (nodeIn m j .head ≡ 131)) ⊎ ((nodeIn m k .head ≡ 131) × (nodeIn m j .head ≡ 130))) × (nodeIn m k .left ≡ nodeIn m j .left)
+      (((nodeIn m k .head ≡ atomHead public) × (nodeIn m j .head ≡ atomHead private)) ⊎ ((nodeIn m k .head ≡ atomHead private) × (nodeIn m j .head ≡ atomHead public))) × (nodeIn m k .left ≡ nodeIn m j .left)
   heads-of (atom plain x) e i f = absurd i
   heads-of (atom public x) e i f = let u = atom-node w l e in let v = atom-node w n f in (inl (u .0, v .0), u .1 ∙ sym (v .1))
   heads-of (atom private x) e i f = let u = atom-node w l e in let v = atom-node w n f in (inr (u .0, v .0), u .1 ∙ sym (v .1))
@@ -51,10 +52,22 @@ module _ {m : Machine} {k j : ℕ} (w : SoundState m) (l : k < m .nodes) (n : j 
   says-inverse : Says (inverseNodes (nodeIn m k) (nodeIn m j)) (Match asymmetric (termAt m k) (termAt m j))
   unfolding inverseNodes
   says-inverse =
-      let s = says-and _ _ (says-or _ _ (says-and _ _ (says-eqb (nodeIn m k .head) 130) (says-eqb (nodeIn m j .head) 131)) (says-and _ _ (says-eqb (nodeIn m k .head) 131) (says-eqb (nodeIn m j .head) 130))) (says-eqb (nodeIn m k .left) (nodeIn m j .left)) in (
+      let s = says-and _ _ (says-or _ _ (says-and _ _ (says-eqb (nodeIn m k .head) (atomHead public)) (says-eqb (nodeIn m j .head) (atomHead private))) (says-and _ _ (says-eqb (nodeIn m k .head) (atomHead private)) (says-eqb (nodeIn m j .head) (atomHead public)))) (says-eqb (nodeIn m k .left) (nodeIn m j .left)) in (
         λ e. let u = s .0 e in ⊎-elim (λ v. of-kind public tt (v .0) (v .1) (u .1)) (λ v. of-kind private tt (v .0) (v .1) (u .1)) (u .0),
         λ u. s .1 (heads-of (termAt m k) refl (u .fits) (u .turned)),
       )
 
-  pub inverse-keys : {c : Cipher} {f : Bool} {x y : Node} → c ≡ Asymmetric → x ≡ nodeIn m k → y ≡ nodeIn m j → f ≡ inverseNodes x y → f ≡ test (match? (cipherOf c) (termAt m k) (termAt m j))
-  inverse-keys q e g t = t ∙ rw (e, g, q) (decided (match? asymmetric _ _) says-inverse)
+  pub inverse-keys : {x y : Node} → x ≡ nodeIn m k → y ≡ nodeIn m j → inverseNodes x y ≡ test (match? asymmetric (termAt m k) (termAt m j))
+  inverse-keys e g = rw (e, g) (decided (match? asymmetric _ _) says-inverse)
+
+  pub keys-match : (c : Cipher) {x y : Node} → x ≡ nodeIn m k → y ≡ nodeIn m j → matchNodes c k j x y ≡ test (match? (cipherOf c) (termAt m k) (termAt m j))
+  keys-match Symmetric e g = decided (match? symmetric _ _) (λ e. record { fits = tt; turned = sym (ap (termAt m) (eqb-true k j e)) }, λ u. eq-eqb k j (sym (decode-inj (w .table) j k n l (u .turned))))
+  keys-match Asymmetric e g = inverse-keys e g
+
+-- the test of the code, by its operation
+module _ {c : Cipher} (k j : ℕ) (x y : Node) where
+  pub match-equal : c ≡ Symmetric → eqb k j ≡ matchNodes c k j x y
+  match-equal e = rw e
+
+  pub match-inverse : {b : Bool} → c ≡ Asymmetric → b ≡ inverseNodes x y → b ≡ matchNodes c k j x y
+  match-inverse e f = rw e f

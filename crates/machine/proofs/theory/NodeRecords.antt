@@ -1,27 +1,24 @@
 -- Nodes and records, one for one; and the node of a term, by the term's head.
 use mathlib.Core.Path.{_≡_, refl, sym, ap, _∙_}
 use Prim.Native.Nat.{ℕ, _+_, _<_}
-use Rattle.term.specs.Term.{Kind, plain, public, private, symmetric, asymmetric, left, right, Head, pair, part, encrypt, decrypt, Term, atom, node}
+use native.Mathlib.Omega.{arith}
+use borrow.Author.Tests.{lt-ltb}
+use Rattle.term.specs.Term.{Kind, plain, public, private, Head, Term, atom, node, atomic}
+use Rattle.term.specs.Kind.{shapeOf}
 use Rattle.term.specs.Table.{Rec, leaf, branch, message}
-use Rattle.term.specs.Rule.{headOf, ruleOf}
+use Rattle.term.specs.Rule.{ruleOf}
+use Rattle.term.proofs.Rule.{head-rule, rule-below}
 use Rattle.term.proofs.Table.{part-below, node-of, branch-of, leaf-of}
-use Rattle.submission.specs.Record.{kindOf, atomic, shapeOf}
 use Rattle.machine.specs.declared.Machine.{Machine}
-use Rattle.machine.specs.Code.{recordFor, nodeFor, nodeIn, nodeAt, termAt, SoundState}
+use Rattle.machine.specs.Code.{atoms, atomHead, recordFor, nodeFor, nodeIn, nodeAt, termAt, SoundState}
 
 -- ---- nodes and records
 -- the record of a node of this head
 pub rule-record : (h : Head) (l r : ℕ) → recordFor (nodeFor (branch h l r)) ≡ branch h l r
-unfolding recordFor headOf
-rule-record pair l r = refl
-rule-record (part left) l r = refl
-rule-record (part right) l r = refl
-rule-record (encrypt symmetric) l r = refl
-rule-record (decrypt symmetric) l r = refl
-rule-record (encrypt asymmetric) l r = refl
-rule-record (decrypt asymmetric) l r = refl
+unfolding recordFor
+rule-record h l r = rw (lt-ltb (ruleOf h) atoms (omega (arith, rule-below h)), head-rule h)
 
-pub atom-record : (κ : Kind) (l r : ℕ) → recordFor (record { head = 128 + kindOf (atomic κ); left = l; right = r }) ≡ leaf κ l
+pub atom-record : (κ : Kind) (l r : ℕ) → recordFor (record { head = atomHead κ; left = l; right = r }) ≡ leaf κ l
 unfolding recordFor shapeOf
 atom-record plain l r = refl
 atom-record public l r = refl
@@ -54,9 +51,9 @@ module _ {m : Machine} (w : SoundState m) {a : ℕ} (l : a < m .nodes) where
       (cc, cc, cc)
 
   -- an atom
-  pub atom-term : (κ : Kind) → nodeIn m a .head ≡ 128 + kindOf (atomic κ) → termAt m a ≡ atom κ (nodeIn m a .left)
+  pub atom-term : (κ : Kind) → nodeIn m a .head ≡ atomHead κ → termAt m a ≡ atom κ (nodeIn m a .left)
   atom-term κ e =
       w .table .reads a l ∙ ap (message (termAt m)) (ap (λ z. recordFor (record { head = z; left = nodeIn m a .left; right = nodeIn m a .right })) e ∙ atom-record κ _ _)
 
-  pub atom-node : {κ : Kind} {n : ℕ} → termAt m a ≡ atom κ n → (nodeIn m a .head ≡ 128 + kindOf (atomic κ)) × (nodeIn m a .left ≡ n)
+  pub atom-node : {κ : Kind} {n : ℕ} → termAt m a ≡ atom κ n → (nodeIn m a .head ≡ atomHead κ) × (nodeIn m a .left ≡ n)
   atom-node e = let q = record-in (leaf-of (w .table) a l e) in (cc, cc)

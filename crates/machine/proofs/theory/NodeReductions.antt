@@ -1,78 +1,126 @@
 -- The machine's step over nodes: each rule forms its own node, or a reduction gives one that is there.
 use mathlib.Core.Path.{_≡_, refl, sym, ap, ap₂, _∙_, subst}
-use mathlib.Core.Bool.{Bool, true, false}
-use mathlib.Core.List.{_∷_, [], _++_}
+use mathlib.Core.Bool.{Bool, true, false, _&&_}
+use mathlib.Core.List.{List, [], _∷_}
 use mathlib.Core.Logic.{Dec·and, if-pos, if-neg}
-use Prim.Native.Nat.{ℕ, _+_, _<_}
+use Prim.Native.Nat.{ℕ, _+_, _≤_, _<_}
 use native.Mathlib.Omega.{arith}
-use borrow.Author.Tests.{lt-ltb}
-use Rattle.base.proofs.Says.{Says, says-eqb, says-and, denies}
-use Rattle.term.specs.Term.{Cipher, Side, left, right, Head, pair, part, Term, atom, node, head?, term?, test, Match}
-use Rattle.term.specs.Table.{branch, message}
-use Rattle.term.specs.Reduce.{match?, cancelled, paired, parted, pick}
+use lib.Dec.{eqb}
+use borrow.Author.Tests.{lt-ltb, eq-eqb, ne-eqb}
+use Rattle.base.specs.First.{first}
+use Rattle.base.specs.Grow.{grow}
+use Rattle.base.proofs.Says.{Says, says-true, says-eqb, says-and, denies}
+use Rattle.term.specs.Term.{Cipher, symmetric, asymmetric, Side, left, right, pair, encryption, Head, make, part, decrypt, Term, atom, node, head?, term?, test, Match}
+use Rattle.term.specs.Table.{Rec, leaf, branch, message, Below}
+use Rattle.term.specs.Reduce.{match?, cancelled, paired, parted, made, pick, op}
 use Rattle.term.specs.Rule.{rules, headOf, ruleOf}
 use Rattle.term.proofs.Reduce.{says-test}
+use Rattle.term.proofs.Numbered.{same-below, Apart, Arms, choice}
 use Rattle.term.proofs.Rule.{rule-head}
 use Rattle.term.proofs.Table.{decode-inj}
 use Rattle.machine.specs.declared.Node.{Node}
 use Rattle.machine.specs.declared.Machine.{Machine}
-use Rattle.machine.specs.declared.Interned.{Interned}
-use Rattle.machine.specs.Code.{recordFor, nodeIn, partsOfOne, termAt, SoundState, Fit, Has, Ready, Stored, Gives}
+use Rattle.machine.specs.declared.Operands.{Operands}
+use Rattle.machine.specs.declared.Found.{Found}
+use Rattle.machine.specs.declared.Found.the-variants.{At, Nothing}
+use Rattle.machine.specs.declared.Cipher.{Cipher as CipherRead}
+use Rattle.machine.specs.Code.{atoms, recordFor, nodeFor, nodeOf, operandsOf, operandsIn, nodeIn, nodeAt, resultOf, partsOfOne, matchNodes, when, termAt, SoundState, withRegister, withValue, Valued, Gives}
 use Rattle.machine.proofs.theory.NodeRecords.{compound-below, compound-term, compound-node}
+use Rattle.machine.proofs.theory.NodeSearch.{same-node, Absent, found-gives}
+use Rattle.machine.proofs.theory.StateGrowth.{isNode, Fit, stored-gives, register-stored}
+use Rattle.machine.proofs.theory.KeyNodes.{cipherOf, keys-match}
 
--- ---- forming a node
+-- the numbers of two nodes of the state m
+pub record Ready (m : Machine) (a b : ℕ) : Type 0 where
+  pub sound : SoundState m
+  pub left : a < m .nodes
+  pub right : b < m .nodes
+
+-- what the head h over the nodes a and b reduces to in the state m, where it does
+pub record Reduct (m : Machine) (h : Head) (a b : ℕ) (reduced : Found) : Type 0 where
+  pub there : (n : ℕ) → reduced ≡ At n → (n < m .nodes) × (op h (termAt m a) (termAt m b) ≡ termAt m n)
+  pub nothing : reduced ≡ Nothing → op h (termAt m a) (termAt m b) ≡ node h (termAt m a) (termAt m b)
+
+-- ---- a rule's own node
 abbrev form : ℕ → ℕ → ℕ → Node
 form rule a b = record { head = rule; left = a; right = b }
 
 form-record : (rule a b : ℕ) → rule < rules → recordFor (form rule a b) ≡ branch (headOf rule) a b
 unfolding recordFor
-form-record rule a b l = rw (lt-ltb rule 128 (omega arith))
+form-record rule a b l = rw (lt-ltb rule atoms (omega arith))
 
 module _ {m : Machine} {rule a b : ℕ} (w : Ready m a b) (l : rule < rules) where
-  pub form-fit : Fit m (record { head = rule; left = a; right = b })
+  form-fit : Fit m (form rule a b)
   form-fit = record {
     sound = w .sound;
     canonical = rw (form-record rule a b l, rule-head rule l);
     low = rw (form-record rule a b l) (w .left, w .right);
-    room = w .room;
   }
 
-  pub form-gives : {i : Interned} {r : Machine} → Has m (record { head = rule; left = a; right = b }) i → Stored (i .machine) (i .number) r → Gives m (node (headOf rule) (termAt m a) (termAt m b)) r
-  form-gives h s = record {
-    holds = record {
-      sound = s .holds .sound;
-      is = s .holds .is ∙ ap₂ (λ vs t. vs ++ t ∷ []) (h .holds .is) (h .is ∙ ap (message (termAt m)) (form-record rule a b l));
-    };
-    used = s .used ∙ ap (λ n. n + 1) (h .used);
-    few = omega (arith, s .nodes, h .few);
-  }
+  -- a node comes after its left operand
+  form-absent : Absent m (form rule a b) (a + 1)
+  form-absent = record { none = λ k b. denies _ (says-true _) .1 (earlier k b) }
+    where
+      earlier : (k : ℕ) → k < a + 1 → isNode m (form rule a b) k ≡ true → ⊥
+      earlier k i t =
+          let e : nodeAt m k ≡ branch (headOf rule) a b = ap recordFor (same-node t) ∙ form-record rule a b l in
+          let z : (a < k) × (b < k) = subst (Below k) e (w .sound .table .earlier k (omega (arith, w .left))) in
+          omega (arith, z .0)
 
--- ---- a term in the next register, by another name
-module _ {m r : Machine} where
-  named : {t u : Term} → Gives m u r → t ≡ u → Gives m t r
-  named g e = rw e g
+  -- the result: what the rule's word reduces to, or its own node
+  pub result-gives : {r : Machine} (reduced : Found) → Reduct m (headOf rule) a b reduced → Valued m (record { head = rule; left = a; right = b }) (resultOf m (record { head = rule; left = a; right = b }) reduced) r →
+      Gives m (op (headOf rule) (termAt m a) (termAt m b)) r
+  result-gives (At n) d v =
+      let (l, t) = d .there n refl in
+      rw (v .is, t) (stored-gives (register-stored (w .sound) l (v .space) refl))
+  result-gives Nothing d v = rw (d .nothing refl, ← (ap (message (termAt m)) (form-record rule a b l))) (found-gives (a + 1) form-fit form-absent refl v)
 
-  stored : {t : Term} {n : ℕ} → Stored m n r → t ≡ termAt m n → Gives m t r
-  stored s e = rw e (record { holds = s .holds; used = s .used; few = omega (arith, s .nodes) })
+-- ---- whether a rule reduces, by a test
+when-reduct : {m : Machine} {h : Head} {a b : ℕ} (t : Bool) (n : ℕ) → (t ≡ true → (n < m .nodes) × (op h (termAt m a) (termAt m b) ≡ termAt m n)) →
+    (t ≡ false → op h (termAt m a) (termAt m b) ≡ node h (termAt m a) (termAt m b)) → Reduct m h a b (when t n)
+when-reduct true n f g = record {
+  there = λ k e. let q : n ≡ k = cc in rw (← q) (f refl);
+  nothing = λ e. absurd (let z : _≡_ {A = ℕ} 0 1 = cc in omega arith);
+}
+when-reduct false n f g = record { there = λ k e. absurd (let z : _≡_ {A = ℕ} 0 1 = cc in omega arith); nothing = λ e. g refl }
 
 -- ---- a node of this head, as it was read
-module _ {m : Machine} {a rule : ℕ} {x : Node} (w : SoundState m) (l : a < m .nodes) (e : x ≡ nodeIn m a) (h : x .head ≡ rule) (b : rule < rules) where
-  head-is : nodeIn m a .head ≡ ruleOf (headOf rule)
-  head-is = sym (ap (λ z. z .head) e) ∙ h ∙ sym (rule-head rule b)
+module _ (h : Head) {m : Machine} {a : ℕ} {x : Node} (w : SoundState m) (l : a < m .nodes) (e : x ≡ nodeIn m a) (q : x .head ≡ ruleOf h) where
+  head-is : nodeIn m a .head ≡ ruleOf h
+  head-is = sym (ap (λ z. z .head) e) ∙ q
 
-  pub left-below : x .left < m .nodes
-  left-below = rw e (compound-below w l (headOf rule) head-is .0)
+  left-below : x .left < m .nodes
+  left-below = rw e (compound-below w l h head-is .0)
 
-  pub right-below : x .right < m .nodes
-  right-below = rw e (compound-below w l (headOf rule) head-is .1)
+  right-below : x .right < m .nodes
+  right-below = rw e (compound-below w l h head-is .1)
 
-  term-is : termAt m a ≡ node (headOf rule) (termAt m (x .left)) (termAt m (x .right))
-  term-is = rw e (compound-term w l (headOf rule) head-is)
+  term-is : termAt m a ≡ node h (termAt m (x .left)) (termAt m (x .right))
+  term-is = rw e (compound-term w l h head-is)
 
 -- a compound term's node, as it was read
 read-node : {m : Machine} {a : ℕ} {x : Node} {h : Head} {p q : Term} → SoundState m → a < m .nodes → x ≡ nodeIn m a → termAt m a ≡ node h p q →
     (x .head ≡ ruleOf h) × (termAt m (x .left) ≡ p) × (termAt m (x .right) ≡ q)
 read-node w l e f = rw e (compound-node w l f)
+
+-- the operands, as they were read
+module _ (hs ls rs : List ℕ) (a : ℕ) {x : Node} (e : x ≡ nodeOf hs ls rs a) where
+  pub key-read : nodeOf hs ls rs a .right < 384 → x .right < 384
+  key-read l = rw e l
+
+  pub operands-read : (b : ℕ) {y z : Node} → y ≡ nodeOf hs ls rs b → z ≡ nodeOf hs ls rs (x .right) → record { left = x; right = y; key = z } ≡ operandsOf hs ls rs a b
+  operands-read b f g = rw (f, g, e)
+
+-- a node's right operand is a node, and an atom has 0 there
+pub right-part-in : (m : Machine) (a : ℕ) → SoundState m → a < m .nodes → m .nodes < 384 → nodeIn m a .right < 384
+right-part-in m a w l h = go (nodeAt m a) refl
+  where
+    go : (r : Rec) → nodeAt m a ≡ r → nodeIn m a .right < 384
+    go (leaf κ n) q = let z : nodeIn m a .right ≡ 0 = ap (λ z. z .right) (sym (w .canonical a l) ∙ ap nodeFor q) in omega arith
+    go (branch f u v) q =
+        let z : nodeIn m a .right ≡ v = ap (λ z. z .right) (sym (w .canonical a l) ∙ ap nodeFor q) in
+        let y : (u < a) × (v < a) = subst (Below a) q (w .table .earlier a l) in
+        omega (arith, y .1)
 
 -- ---- heads that cancel
 cancel-none : (c : Cipher) (inner outer : Head) (a b : Term) → ((x k : Term) → a ≡ node inner x k → Match c k b → ⊥) → cancelled c inner outer a b ≡ node outer a b
@@ -85,73 +133,79 @@ cancel-some : (c : Cipher) (inner outer : Head) (x k b : Term) → Match c k b �
 unfolding cancelled
 cancel-some c inner outer x k b u = if-pos (Dec·and (head? inner inner) (match? c k b)) (refl, u) x (node outer (node inner x k) b)
 
-module _ {m r : Machine} {a b : ℕ} {x : Node} (c : Cipher) (inner outer : ℕ) (w : Ready m a b) (e : x ≡ nodeIn m a) (l : inner < rules) where
-  -- a node of another head
-  pub cancel-other : (x .head ≡ inner → ⊥) → Gives m (node (headOf outer) (termAt m a) (termAt m b)) r → Gives m (cancelled c (headOf inner) (headOf outer) (termAt m a) (termAt m b)) r
-  cancel-other d g = named g (cancel-none c (headOf inner) (headOf outer) _ _ (λ y k f u. d (read-node (w .sound) (w .left) e f .0 ∙ rule-head inner l)))
+-- the head h cancels the head g
+module _ (c : CipherRead) (g h : Head) (steps : (a b : Term) → op h a b ≡ cancelled (cipherOf c) g h a b) where
+  cancel-reduct : {m : Machine} {a b : ℕ} {x k y : Node} {r : Found} → Ready m a b → x ≡ nodeIn m a → k ≡ nodeIn m (x .right) → y ≡ nodeIn m b →
+      r ≡ when (eqb (x .head) (ruleOf g) && matchNodes c (x .right) b k y) (x .left) → Reduct m h a b r
+  cancel-reduct {m} {a} {b} {x} {k} {y} w e f i q = rw q (when-reduct _ _ here other)
+    where
+      match-is : x .head ≡ ruleOf g → matchNodes c (x .right) b k y ≡ test (match? (cipherOf c) (termAt m (x .right)) (termAt m b))
+      match-is u = keys-match (w .sound) (right-below g (w .sound) (w .left) e u) (w .right) c f i
 
-  module _ {f : Bool} (h : x .head ≡ inner) (t : f ≡ test (match? c (termAt m (x .right)) (termAt m b))) where
-    -- a key that does not match
-    pub cancel-key : f ≡ false → Gives m (node (headOf outer) (termAt m a) (termAt m b)) r → Gives m (cancelled c (headOf inner) (headOf outer) (termAt m a) (termAt m b)) r
-    cancel-key q g =
-        named g (cancel-none c (headOf inner) (headOf outer) _ _
-        (λ y k f u. denies _ (says-test (match? c _ _)) .0 (sym t ∙ q) (subst (λ z. Match c z (termAt m b)) (sym (read-node (w .sound) (w .left) e f .2)) u)))
+      here : (eqb (x .head) (ruleOf g) && matchNodes c (x .right) b k y) ≡ true → (x .left < m .nodes) × (op h (termAt m a) (termAt m b) ≡ termAt m (x .left))
+      here t =
+          let (u, v) = says-and _ _ (says-eqb (x .head) (ruleOf g)) (says-true (matchNodes c (x .right) b k y)) .0 t in (
+            left-below g (w .sound) (w .left) e u,
+            steps _ _ ∙ ap (λ t. cancelled (cipherOf c) g h t (termAt m b)) (term-is g (w .sound) (w .left) e u)
+                ∙ cancel-some (cipherOf c) g h _ _ _ (says-test (match? (cipherOf c) _ _) .0 (sym (match-is u) ∙ v)),
+          )
 
-    pub cancel-here : f ≡ true → Stored m (x .left) r → Gives m (cancelled c (headOf inner) (headOf outer) (termAt m a) (termAt m b)) r
-    cancel-here q s =
-        stored s (ap (λ z. cancelled c (headOf inner) (headOf outer) z (termAt m b)) (term-is (w .sound) (w .left) e h l)
-        ∙ cancel-some c (headOf inner) (headOf outer) _ _ _ (says-test (match? c _ _) .0 (sym t ∙ q)))
+      other : (eqb (x .head) (ruleOf g) && matchNodes c (x .right) b k y) ≡ false → op h (termAt m a) (termAt m b) ≡ node h (termAt m a) (termAt m b)
+      other t =
+          steps _ _ ∙ cancel-none (cipherOf c) g h _ _ (λ z j s u.
+          let d = read-node (w .sound) (w .left) e s in
+          let o : matchNodes c (x .right) b k y ≡ false = rw (eq-eqb _ _ (d .0)) at t in
+          denies _ (says-test (match? (cipherOf c) _ _)) .0 (sym (match-is (d .0)) ∙ o) (subst (λ z. Match (cipherOf c) z (termAt m b)) (sym (d .2)) u))
 
 -- ---- a pair of parts
-pair-none : (a b : Term) → ((x p q : Term) → a ≡ node (part left) x p → b ≡ node (part right) x q → ⊥) → paired a b ≡ node pair a b
+pair-none : (a b : Term) → ((x p q : Term) → a ≡ node (part left) x p → b ≡ node (part right) x q → ⊥) → paired a b ≡ node (make pair) a b
 unfolding paired
 pair-none (atom κ n) b f = refl
 pair-none (node h x p) (atom κ n) f = refl
 pair-none (node h x p) (node h′ y q) f =
     if-neg (Dec·and (head? h (part left)) (Dec·and (head? h′ (part right)) (term? y x)))
-    (λ u. f x p q (ap (λ z. node z x p) (u .0)) (ap₂ (λ z v. node z v q) (u .1 .0) (u .1 .1))) x (node pair (node h x p) (node h′ y q))
+    (λ u. f x p q (ap (λ z. node z x p) (u .0)) (ap₂ (λ z v. node z v q) (u .1 .0) (u .1 .1))) x (node (make pair) (node h x p) (node h′ y q))
 
 pair-some : (x p q : Term) → paired (node (part left) x p) (node (part right) x q) ≡ x
 unfolding paired
 pair-some x p q =
     if-pos (Dec·and (head? (part left) (part left)) (Dec·and (head? (part right) (part right)) (term? x x))) (refl, (refl, refl)) x _
 
-says-parts : (x y : Node) → Says (partsOfOne x y) ((x .head ≡ 1) × ((y .head ≡ 2) × (x .left ≡ y .left)))
+says-parts : (x y : Node) → Says (partsOfOne x y) ((x .head ≡ ruleOf (part left)) × ((y .head ≡ ruleOf (part right)) × (x .left ≡ y .left)))
 unfolding partsOfOne
 says-parts x y = says-and _ _ (says-eqb _ _) (says-and _ _ (says-eqb _ _) (says-eqb _ _))
 
-pub pair-below : {m : Machine} {a b : ℕ} {x y : Node} {f : Bool} → Ready m a b → x ≡ nodeIn m a → y ≡ nodeIn m b → f ≡ partsOfOne x y → f ≡ true → x .left < m .nodes
-pair-below {x = x} {y} w e g t q = left-below (w .sound) (w .left) e (says-parts x y .0 (sym t ∙ q) .0) (omega arith)
+pair-reduct : {m : Machine} {a b : ℕ} {x y : Node} {r : Found} → Ready m a b → x ≡ nodeIn m a → y ≡ nodeIn m b → r ≡ when (partsOfOne x y) (x .left) → Reduct m (make pair) a b r
+unfolding op
+pair-reduct {m} {a} {b} {x} {y} w e g q = rw q (when-reduct _ _ here other)
+  where
+    here : partsOfOne x y ≡ true → (x .left < m .nodes) × (paired (termAt m a) (termAt m b) ≡ termAt m (x .left))
+    here t =
+        let u = says-parts x y .0 t in (
+          left-below (part left) (w .sound) (w .left) e (u .0),
+          ap₂ paired (term-is (part left) (w .sound) (w .left) e (u .0)) (term-is (part right) (w .sound) (w .right) g (u .1 .0)
+              ∙ ap (λ z. node (part right) (termAt m z) (termAt m (y .right))) (sym (u .1 .1))) ∙ pair-some _ _ _,
+        )
 
-module _ {m r : Machine} {a b : ℕ} {x y : Node} {f : Bool} (w : Ready m a b) (e : x ≡ nodeIn m a) (g : y ≡ nodeIn m b) (t : f ≡ partsOfOne x y) where
-  pub pair-here : f ≡ true → Stored m (x .left) r → Gives m (paired (termAt m a) (termAt m b)) r
-  unfolding headOf
-  pair-here q s =
-      let u = says-parts x y .0 (sym t ∙ q) in
-      stored s (ap₂ paired (term-is (w .sound) (w .left) e (u .0) (omega arith)) (term-is (w .sound) (w .right) g (u .1 .0) (omega arith)
-      ∙ ap (λ z. node (part right) (termAt m z) (termAt m (y .right))) (sym (u .1 .1))) ∙ pair-some _ _ _)
-
-  pub pair-other : f ≡ false → Gives m (node (headOf 0) (termAt m a) (termAt m b)) r → Gives m (paired (termAt m a) (termAt m b)) r
-  unfolding headOf
-  pair-other q s =
-      named s (pair-none _ _ (λ z p k i j.
-      let u = read-node (w .sound) (w .left) e i in
-      let v = read-node (w .sound) (w .right) g j in
-      denies _ (says-parts x y) .0 (sym t ∙ q) (
-        u .0,
-        (
-          v .0,
-          decode-inj (w .sound .table) _ _ (left-below (w .sound) (w .left) e (u .0) (omega arith)) (left-below (w .sound) (w .right) g (v .0) (omega arith)) (u .1 ∙ sym (v .1)),
-        ),
-      )))
+    other : partsOfOne x y ≡ false → paired (termAt m a) (termAt m b) ≡ node (make pair) (termAt m a) (termAt m b)
+    other t = pair-none _ _ (λ z p k i j.
+        let u = read-node (w .sound) (w .left) e i in
+        let v = read-node (w .sound) (w .right) g j in
+        denies _ (says-parts x y) .0 t (
+          u .0,
+          (
+            v .0,
+            decode-inj (w .sound .table) _ _ (left-below (part left) (w .sound) (w .left) e (u .0)) (left-below (part right) (w .sound) (w .right) g (v .0)) (u .1 ∙ sym (v .1)),
+          ),
+        ))
 
 -- ---- a part of a pair
-part-none : (s : Side) (a b : Term) → ((x y : Term) → a ≡ node pair x y → ⊥) → parted s a b ≡ node (part s) a b
+part-none : (s : Side) (a b : Term) → ((x y : Term) → a ≡ node (make pair) x y → ⊥) → parted s a b ≡ node (part s) a b
 unfolding parted
 part-none s (atom κ n) b f = refl
-part-none s (node h x y) b f = if-neg (head? h pair) (λ u. f x y (ap (λ z. node z x y) u)) _ _
+part-none s (node h x y) b f = if-neg (head? h (make pair)) (λ u. f x y (ap (λ z. node z x y) u)) _ _
 
-part-some : (s : Side) (x y b : Term) → parted s (node pair x y) b ≡ pick s x y
+part-some : (s : Side) (x y b : Term) → parted s (node (make pair) x y) b ≡ pick s x y
 unfolding parted
 part-some s x y b = refl
 
@@ -159,20 +213,55 @@ picked : (T : ℕ → Term) (s : Side) (x y : ℕ) → pick s (T x) (T y) ≡ T 
 picked T left x y = refl
 picked T right x y = refl
 
-module _ {m r : Machine} {a : ℕ} {x : Node} (s : Side) (w : Ready m a a) (e : x ≡ nodeIn m a) where
-  pub part-other : (rule : ℕ) → headOf rule ≡ part s → (x .head ≡ 0 → ⊥) → Gives m (node (headOf rule) (termAt m a) (termAt m a)) r → Gives m (parted s (termAt m a) (termAt m a)) r
-  part-other rule q d g =
-      named g (part-none s _ _ (λ y z f. d (read-node (w .sound) (w .left) e f .0)) ∙ ap (λ h. node h (termAt m a) (termAt m a)) (sym q))
-
-  module _ {n : ℕ} (h : x .head ≡ 0) (q : n ≡ pick s (x .left) (x .right)) where
-    pub part-here : Stored m n r → Gives m (parted s (termAt m a) (termAt m a)) r
-    unfolding headOf
-    part-here g =
-        stored g (ap (λ z. parted s z (termAt m a)) (term-is (w .sound) (w .left) e h (omega arith)) ∙ part-some s _ _ _ ∙ picked (termAt m) s _ _ ∙ ap (termAt m) (sym q))
-
-pub part-below : {m : Machine} {a n : ℕ} {x : Node} (s : Side) → Ready m a a → x ≡ nodeIn m a → x .head ≡ 0 → n ≡ pick s (x .left) (x .right) → n < m .nodes
-part-below {m} {x = x} s w e h q = rw q (of s)
+part-reduct : {m : Machine} {a b : ℕ} {x : Node} {r : Found} (s : Side) → Ready m a b → x ≡ nodeIn m a → r ≡ when (eqb (x .head) (ruleOf (make pair))) (pick s (x .left) (x .right)) → Reduct m (part s) a b r
+unfolding op
+part-reduct {m} {a} {b} {x} s w e q = rw q (when-reduct _ _ here other)
   where
-    of : (s : Side) → pick s (x .left) (x .right) < m .nodes
-    of left = left-below (w .sound) (w .left) e h (omega arith)
-    of right = right-below (w .sound) (w .left) e h (omega arith)
+    below : (s : Side) → x .head ≡ ruleOf (make pair) → pick s (x .left) (x .right) < m .nodes
+    below left h = left-below (make pair) (w .sound) (w .left) e h
+    below right h = right-below (make pair) (w .sound) (w .left) e h
+
+    here : eqb (x .head) (ruleOf (make pair)) ≡ true → (pick s (x .left) (x .right) < m .nodes) × (parted s (termAt m a) (termAt m b) ≡ termAt m (pick s (x .left) (x .right)))
+    here t =
+        let h = says-eqb (x .head) (ruleOf (make pair)) .0 t in
+        (below s h, ap (λ z. parted s z (termAt m b)) (term-is (make pair) (w .sound) (w .left) e h) ∙ part-some s _ _ _ ∙ picked (termAt m) s _ _)
+
+    other : eqb (x .head) (ruleOf (make pair)) ≡ false → parted s (termAt m a) (termAt m b) ≡ node (part s) (termAt m a) (termAt m b)
+    other t = part-none s _ _ (λ y z f. denies _ (says-eqb (x .head) (ruleOf (make pair))) .0 t (read-node (w .sound) (w .left) e f .0))
+
+-- ---- the reductions by the operands that were read
+module _ {m : Machine} {a b : ℕ} {o : Operands} {r : Found} (w : Ready m a b) (e : o ≡ operandsIn m a b) where
+  pub joined-reduct : r ≡ when (partsOfOne (o .left) (o .right)) (o .left .left) → Reduct m (make pair) a b r
+  joined-reduct q = pair-reduct w (ap (λ z. z .left) e) (ap (λ z. z .right) e) q
+
+  pub parted-reduct : (s : Side) → r ≡ when (eqb (o .left .head) (ruleOf (make pair))) (pick s (o .left .left) (o .left .right)) → Reduct m (part s) a b r
+  parted-reduct s q = part-reduct s w (ap (λ z. z .left) e) q
+
+  pub cancelled-reduct : (c : CipherRead) (g h : Head) → ((a b : Term) → op h a b ≡ cancelled (cipherOf c) g h a b) →
+      r ≡ when (eqb (o .left .head) (ruleOf g) && matchNodes c (o .left .right) b (o .key) (o .right)) (o .left .left) → Reduct m h a b r
+  cancelled-reduct c g h z q =
+      cancel-reduct c g h z w (ap (λ z. z .left) e) (ap (λ z. z .key) e ∙ ap (nodeIn m) (sym (ap (λ z. z .left .right) e))) (ap (λ z. z .right) e) q
+
+-- ---- a rule with no reduction
+-- what a rule's step is: its reduction, or the term alone
+abbrev reductions : Term → Term → Arms Term
+reductions a b =
+    (ruleOf (make pair), paired a b)
+    ∷ (ruleOf (part left), parted left a b)
+    ∷ (ruleOf (part right), parted right a b)
+    ∷ (ruleOf (make (encryption symmetric)), made (encryption symmetric) a b)
+    ∷ (ruleOf (decrypt symmetric), op (decrypt symmetric) a b)
+    ∷ (ruleOf (make (encryption asymmetric)), made (encryption asymmetric) a b)
+    ∷ (ruleOf (decrypt asymmetric), op (decrypt asymmetric) a b)
+    ∷ []
+
+step-table : (n : ℕ) → n < rules → (a b : Term) → op (headOf n) a b ≡ choice (reductions a b) (node (headOf n) a b) n
+unfolding op headOf grow
+step-table n l a b = same-below (λ n. op (headOf n) a b) (λ n. choice (reductions a b) (node (headOf n) a b) n) rules refl n l
+
+-- a rule without an arm only forms its term
+pub other-reduct : {m : Machine} {n a b : ℕ} → Apart n 7 → n < rules → Reduct m (headOf n) a b Nothing
+other-reduct {m} {n} {a} {b} (((((((_, c), d), e), f), g), h), i) l = record {
+  there = λ k e. absurd (let z : _≡_ {A = ℕ} 0 1 = cc in omega arith);
+  nothing = λ u. step-table n l (termAt m a) (termAt m b) ∙ rw (ne-eqb _ _ c, ne-eqb _ _ d, ne-eqb _ _ e, ne-eqb _ _ f, ne-eqb _ _ g, ne-eqb _ _ h, ne-eqb _ _ i);
+}

@@ -1,33 +1,40 @@
 -- Looking for a node, and tests on nodes, one test at a time.
 use mathlib.Core.Path.{_≡_, refl, sym, ap, _∙_}
 use mathlib.Core.Bool.{Bool, true, false, and-true, and-false, or-false}
+use mathlib.Core.List.{List}
+use mathlib.Core.Logic.{⊎-elim}
 use mathlib.Core.Option.{Option, none, some}
 use Prim.Native.Nat.{ℕ, _+_, _≤_, _<_}
-use native.Mathlib.Omega.{arith}
-use lib.Dec.{eqb}
+use lib.Dec.{eqb, leb}
 use lib.ListN.{length, set}
-use borrow.Author.Tests.{eq-eqb, ne-eqb}
+use borrow.Author.Tests.{eq-eqb, ne-eqb, le-leb, lt-leb}
 use Rattle.base.specs.First.{first}
-use Rattle.base.proofs.First.{Passed, passed-more, passed-hit, passed-all, first-some}
-use Rattle.base.proofs.Says.{Says, says-eqb, says-and}
+use Rattle.base.proofs.First.{Passed, passed-more, passed-hit, passed-all, first-none, first-some}
+use Rattle.base.proofs.Order.{lt-or-ge}
+use Rattle.base.proofs.Says.{Says, says-true, says-eqb, says-and}
+use Rattle.term.specs.Term.{public, private}
 use Rattle.term.specs.Table.{message}
 use Rattle.machine.specs.declared.Node.{Node}
 use Rattle.machine.specs.declared.Machine.{Machine}
 use Rattle.machine.specs.declared.Found.{Found}
 use Rattle.machine.specs.declared.Found.the-variants.{At, Nothing}
-use Rattle.machine.specs.Code.{recordFor, nodeIn, termAt, sameNode, isNode, foundOf, inverseNodes, Fit, Has}
-use Rattle.machine.proofs.theory.StateGrowth.{node-added}
+use Rattle.machine.specs.Code.{atomHead, recordFor, nodeOf, termAt, sameNode, isNodeFrom, foundOf, orFound, inverseNodes, withValue, Valued, Gives}
+use Rattle.machine.proofs.theory.StateGrowth.{isNode, Fit, stored-gives, register-stored, node-added}
 
 -- ---- looking for a node
-module _ (m : Machine) (v : Node) {n i : ℕ} (p : Passed (isNode m v) n i) where
-  module _ {k : ℕ} {b : Bool} (l : i < n) (e : k ≡ i) (f : b ≡ sameNode (nodeIn m k) v) where
-    pub found-here : b ≡ true → At i ≡ foundOf (first (isNode m v) n)
-    found-here t = let q : isNode m v i ≡ true = rw (← e) (sym f ∙ t) in rw (passed-hit p l q)
+-- none before the number where the search starts
+pub search-starts : (hs ls rs : List ℕ) (v : Node) {from n : ℕ} → from ≤ n → Passed (isNodeFrom hs ls rs v from) n from
+search-starts hs ls rs v {from} l = record { within = l; failed = λ k b. rw (lt-leb from k b) }
 
-    pub found-later : b ≡ false → Passed (isNode m v) n (i + 1)
-    found-later t = let q : isNode m v i ≡ false = rw (← e) (sym f ∙ t) in passed-more p l q
+module _ (hs ls rs : List ℕ) (v : Node) (from : ℕ) {n i : ℕ} (p : Passed (isNodeFrom hs ls rs v from) n i) where
+  module _ {k : ℕ} {b : Bool} (a : from ≤ i) (l : i < n) (e : k ≡ i) (f : b ≡ sameNode (nodeOf hs ls rs k) v) where
+    pub found-here : b ≡ true → At i ≡ foundOf (first (isNodeFrom hs ls rs v from) n)
+    found-here t = let q : isNodeFrom hs ls rs v from i ≡ true = rw (le-leb from i a, ← e) (sym f ∙ t) in rw (passed-hit p l q)
 
-  pub found-none : n ≤ i → Nothing ≡ foundOf (first (isNode m v) n)
+    pub found-later : b ≡ false → Passed (isNodeFrom hs ls rs v from) n (i + 1)
+    found-later t = let q : isNodeFrom hs ls rs v from i ≡ false = rw (le-leb from i a, ← e) (sym f ∙ t) in passed-more p l q
+
+  pub found-none : n ≤ i → Nothing ≡ foundOf (first (isNodeFrom hs ls rs v from) n)
   found-none l = rw (passed-all p l)
 
 found-at : (o : Option ℕ) (i : ℕ) → foundOf o ≡ At i → o ≡ some i
@@ -41,25 +48,56 @@ found-nothing (some j) e = cc
 says-same : (v w : Node) → Says (sameNode v w) ((v .head ≡ w .head) × ((v .left ≡ w .left) × (v .right ≡ w .right)))
 says-same v w = says-and _ _ (says-eqb _ _) (says-and _ _ (says-eqb _ _) (says-eqb _ _))
 
--- the node is there
-pub node-there : {m : Machine} {v : Node} {i : ℕ} {o : Found} → Fit m v → o ≡ foundOf (first (isNode m v) (m .nodes)) → o ≡ At i → Has m v (record { machine = m; number = i })
-node-there {m} {v} {i} f e a =
-    let (l, t, _) = first-some (isNode m v) (m .nodes) i (found-at _ i (sym e ∙ a)) in
-    let u = says-same (nodeIn m i) v .0 t in
-    let q : nodeIn m i ≡ v = rw (u .0, u .1 .0, u .1 .1) in
-    record {
-      holds = record { sound = f .sound; is = refl };
-      used = refl;
-      below = l;
-      is = f .sound .table .reads i l ∙ ap (λ z. message (termAt m) (recordFor z)) q;
-      few = omega arith;
-    }
+pub same-node : {v w : Node} → sameNode v w ≡ true → v ≡ w
+same-node {v} {w} t = let u = says-same v w .0 t in rw (u .0, u .1 .0, u .1 .1)
 
--- the node is new
-pub node-made : {m : Machine} {v : Node} {k : ℕ} {o : Found} → Fit m v → o ≡ foundOf (first (isNode m v) (m .nodes)) → o ≡ Nothing → k ≡ m .nodes →
-    m .nodes < length (m .heads) → m .nodes < length (m .lefts) → m .nodes < length (m .rights) →
-    Has m v (record { machine = record { heads = set (m .heads) k (v .head); lefts = set (m .lefts) k (v .left); rights = set (m .rights) k (v .right); nodes = m .nodes + 1; registers = m .registers; used = m .used }; number = m .nodes })
-node-made {m} {v} f e a q x y z = rw q (node-added m v (record { heads = x; lefts = y; rights = z }) f (found-nothing _ (sym e ∙ a)))
+-- no node of the state m before this number is v
+pub record Absent (m : Machine) (v : Node) (from : ℕ) : Type 0 where
+  pub none : (k : ℕ) → k < from → isNode m v k ≡ false
+
+-- a search from a number on, before which the node is not
+module _ {m : Machine} {v : Node} (from : ℕ) {o : Found} (f : Fit m v) (a : Absent m v from) (e : o ≡ foundOf (first (isNodeFrom (m .heads) (m .lefts) (m .rights) v from) (m .nodes))) where
+  -- the node is there
+  there : {i : ℕ} → o ≡ At i → (i < m .nodes) × (isNode m v i ≡ true)
+  there {i} h =
+      let (l, t, _) = first-some (isNodeFrom (m .heads) (m .lefts) (m .rights) v from) (m .nodes) i (found-at _ i (sym e ∙ h)) in
+      (l, says-and (leb from i) _ (says-true _) (says-true (isNode m v i)) .0 t .1)
+
+  -- the node is new
+  nowhere : o ≡ Nothing → (k : ℕ) → k < m .nodes → isNode m v k ≡ false
+  nowhere h k l = ⊎-elim (a .none k)
+      (λ b. let z = first-none (isNodeFrom (m .heads) (m .lefts) (m .rights) v from) (m .nodes) (found-nothing _ (sym e ∙ h)) k l in rw (le-leb from k b) at z) (lt-or-ge k from)
+
+  pub found-gives : {r : Machine} → Valued m v o r → Gives m (message (termAt m) (recordFor v)) r
+  found-gives {r} w = go o refl (w .is)
+    where
+      go : (z : Found) → o ≡ z → r ≡ withValue m v z → Gives m (message (termAt m) (recordFor v)) r
+      go (At i) h q =
+          let (l, t) = there h in
+          let u : termAt m i ≡ message (termAt m) (recordFor v) = f .sound .table .reads i l ∙ ap (λ z. message (termAt m) (recordFor z)) (same-node t) in
+          rw (q, ← u) (stored-gives (register-stored (f .sound) l (w .space) refl))
+      go Nothing h q = rw q (node-added m v (w .room) f (nowhere h) (w .space))
+
+-- what was found first
+module _ {r : Found} (o : Found) where
+  pub found-first : {i : ℕ} → r ≡ At i → At i ≡ orFound r o
+  found-first e = rw e
+
+  pub found-second : {t : Found} → r ≡ Nothing → t ≡ o → t ≡ orFound r o
+  found-second e f = rw e f
+
+-- ---- the state with a value in the next register, as the code writes it
+module _ {m : Machine} {v : Node} {o : Found} {i : ℕ} (q : i ≡ m .used) (x : m .nodes < length (m .heads)) (y : m .nodes < length (m .lefts)) (z : m .nodes < length (m .rights)) (w : m .used < length (m .registers)) where
+  pub value-new : {k : ℕ} → o ≡ Nothing → k ≡ m .nodes →
+      Valued m v o (record { heads = set (m .heads) k (v .head); lefts = set (m .lefts) k (v .left); rights = set (m .rights) k (v .right); nodes = m .nodes + 1; registers = set (m .registers) i (m .nodes); used = m .used + 1 })
+  value-new e f = record { room = record { heads = x; lefts = y; rights = z }; space = w; is = rw (e, f, q) }
+
+  pub value-there : {n : ℕ} → o ≡ At n →
+      Valued m v o (record { heads = m .heads; lefts = m .lefts; rights = m .rights; nodes = m .nodes; registers = set (m .registers) i n; used = m .used + 1 })
+  value-there e = record { room = record { heads = x; lefts = y; rights = z }; space = w; is = rw (e, q) }
+
+pub valued-as : {m r : Machine} {v : Node} {f o : Found} → Valued m v f r → f ≡ o → Valued m v o r
+valued-as w e = rw (← e) w
 
 -- ---- inverse keys
 module _ (v w : Node) where
@@ -67,14 +105,14 @@ module _ (v w : Node) where
   unfolding inverseNodes
   other-name e = rw (ne-eqb _ _ e, and-false)
 
-  pub public-first : v .left ≡ w .left → v .head ≡ 130 → eqb (w .head) 131 ≡ inverseNodes v w
+  pub public-first : v .left ≡ w .left → v .head ≡ atomHead public → eqb (w .head) (atomHead private) ≡ inverseNodes v w
   unfolding inverseNodes
   public-first e k = rw (eq-eqb _ _ e, k, or-false, and-true)
 
-  pub private-first : v .left ≡ w .left → v .head ≡ 131 → eqb (w .head) 130 ≡ inverseNodes v w
+  pub private-first : v .left ≡ w .left → v .head ≡ atomHead private → eqb (w .head) (atomHead public) ≡ inverseNodes v w
   unfolding inverseNodes
   private-first e k = rw (eq-eqb _ _ e, k, and-true)
 
-  pub no-key : (v .head ≡ 130 → ⊥) → (v .head ≡ 131 → ⊥) → false ≡ inverseNodes v w
+  pub no-key : (v .head ≡ atomHead public → ⊥) → (v .head ≡ atomHead private → ⊥) → false ≡ inverseNodes v w
   unfolding inverseNodes
   no-key e f = rw (ne-eqb _ _ e, ne-eqb _ _ f)

@@ -12,8 +12,6 @@ use borrow.Author.Tests.{ltb-true, ltb-false, ne-eqb}
 use Rattle.base.specs.First.{any}
 use Rattle.base.specs.Grow.{grow}
 use Rattle.base.proofs.Says.{says-true, says-ltb, says-and, says-any, denies, not-not-false, or-false}
-use Rattle.term.specs.Term.{asymmetric, test}
-use Rattle.term.specs.Reduce.{match?}
 use Rattle.term.specs.Rule.{rules, hasOne}
 use Rattle.base.specs.declared.Stage.{Stage}
 use Rattle.submission.specs.declared.Claim.{Claim}
@@ -26,6 +24,7 @@ use Rattle.base.specs.Bytes.{Bytes, byte}
 use Rattle.submission.specs.Record.{entries}
 use Rattle.submission.specs.Check.{checks1to5}
 use Rattle.base.specs.Code.{checkOf, answerOf}
+use Rattle.machine.specs.declared.Node.{Node}
 use Rattle.machine.specs.declared.Machine.{Machine}
 use Rattle.base.specs.declared.Answer.{Answer}
 use Rattle.program.specs.declared.Asked.{Asked}
@@ -36,9 +35,9 @@ use Rattle.program.specs.Program.{Instruction, Test, instructionAt, testAt, bad
 use Rattle.program.specs.Code.{relationIn}
 use Rattle.program.proofs.theory.Check13.{good, good-instruction, good-test}
 use Rattle.machine.specs.Run.{executed, registers, holds, signals, signal, runAnswer}
-use Rattle.machine.specs.Code.{termAt, register, values, Gives, Executable, SubmissionRead, Started, Running, Testable}
+use Rattle.machine.specs.Code.{nodeIn, inverseNodes, termAt, register, values, Gives, Executable, SubmissionRead, Started, Running, Testable}
 use Rattle.machine.proofs.theory.InstructionResult.{value-at}
-use Rattle.machine.proofs.theory.KeyNodes.{one-term}
+use Rattle.machine.proofs.theory.KeyNodes.{one-term, inverse-keys}
 use Rattle.machine.proofs.theory.StartState.{facts}
 
 -- ---- the instructions
@@ -82,6 +81,12 @@ module _ (P : List ℕ) {m : Machine} {u : Test} {p q : ℕ} (w : Testable m (te
   pub right-below : getD (m .registers) q 0 < m .nodes
   right-below = rw (f, z) (w .sound .written _ (w .right))
 
+  pub left-in : getD (m .registers) p 0 < 384
+  left-in = omega (arith, left-below, w .room)
+
+  pub right-in : getD (m .registers) q 0 < 384
+  right-in = omega (arith, right-below, w .room)
+
   -- what the test's relation says of the two values
   tested : {b : Bool} {r : ℕ} (o : Option Relation) → relationOf (u .letter) ≡ o → b ≡ holds o (termAt m (register m p)) (termAt m (register m q)) → r ≡ cond b 1 0 →
       r ≡ cond (signals (values m) (testAt P)) 1 0
@@ -94,9 +99,9 @@ module _ (P : List ℕ) {m : Machine} {u : Test} {p q : ℕ} (w : Testable m (te
     pub signal-equal : {r : ℕ} → l ≡ Equal → r ≡ cond (eqb (getD (m .registers) p 0) (getD (m .registers) q 0)) 1 0 → r ≡ cond (signals (values m) (testAt P)) 1 0
     signal-equal k = tested (some equal) (sym j ∙ ap relationIn k) (one-term (w .sound) left-below right-below)
 
-    pub signal-inverse : {b : Bool} {r : ℕ} → l ≡ Inverse → b ≡ test (match? asymmetric (termAt m (getD (m .registers) p 0)) (termAt m (getD (m .registers) q 0))) → r ≡ cond b 1 0 →
+    pub signal-inverse : {b : Bool} {r : ℕ} {x y : Node} → l ≡ Inverse → x ≡ nodeIn m (getD (m .registers) p 0) → y ≡ nodeIn m (getD (m .registers) q 0) → b ≡ inverseNodes x y → r ≡ cond b 1 0 →
         r ≡ cond (signals (values m) (testAt P)) 1 0
-    signal-inverse k v = tested (some inverse) (sym j ∙ ap relationIn k) v
+    signal-inverse k a c v = tested (some inverse) (sym j ∙ ap relationIn k) (v ∙ inverse-keys (w .sound) left-below right-below a c)
 
     pub signal-none : l ≡ Unknown → _≡_ {A = ℕ} 0 (cond (signals (values m) (testAt P)) 1 0)
     signal-none k = tested none (sym j ∙ ap relationIn k) refl refl

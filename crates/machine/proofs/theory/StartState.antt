@@ -1,6 +1,6 @@
 -- The start of a run: the submission's terms as nodes, the knowledge and the guess in the first registers.
 use mathlib.Core.Path.{_≡_, refl, sym, ap, ap₂, _∙_, subst}
-use mathlib.Core.Bool.{false≢true}
+use mathlib.Core.Bool.{Bool, true, false, cond, true≢false, false≢true}
 use mathlib.Core.List.{List, [], _∷_, _++_}
 use mathlib.Core.Option.{some}
 use Prim.Native.Nat.{ℕ, _+_, _*_, _≤_, _<_}
@@ -10,70 +10,70 @@ use mir.Syntax.{w8}
 use mir.Val.{Fits}
 use lib.ListN.{length, getD, set, length-set, length-append}
 use borrow.Author.Count.{below-more}
+use Rattle.base.specs.First.{first}
 use Rattle.base.specs.Grow.{grow}
 use Rattle.base.proofs.Grow.{length-listed}
-use Rattle.term.specs.Term.{Kind, plain, public, private, symmetric, asymmetric, Head, pair, part, encrypt, decrypt, atom}
+use Rattle.term.specs.Term.{Kind, plain, public, private, Shape, atomic, compound, isAtomic, atom}
+use Rattle.term.specs.Kind.{shapeOf, kindOf, isUnary, builderOf}
+use Rattle.term.proofs.Kind.{shape-kind}
 use Rattle.term.specs.Table.{leaf, message, void, decoded, Table}
-use Rattle.term.specs.Rule.{ruleOf}
 use Rattle.submission.specs.declared.Term.{Term as TermRead}
-use Rattle.submission.specs.Record.{kindOf, terms, entries, entryAt, guess, kindAt, nameAt, Shape, atomic, compound, shapeOf, recordAt, term}
+use Rattle.submission.specs.Record.{terms, entries, entryAt, guess, kindAt, nameAt, recordAt, term}
 use Rattle.submission.specs.Code.{IsTerm}
-use Rattle.submission.proofs.Shape.{shape-kind, Listable, kind-shape, Shaped}
 use Rattle.submission.proofs.Listed.{Claimed, claimed}
 use Rattle.machine.specs.declared.Node.{Node}
 use Rattle.machine.specs.declared.Machine.{Machine}
-use Rattle.machine.specs.declared.Interned.{Interned}
+use Rattle.machine.specs.declared.Found.{Found}
 use Rattle.machine.specs.Run.{atomKind, guessed, initial}
-use Rattle.machine.specs.Code.{recordFor, nodeFor, nodeIn, nodeAt, termAt, values, SoundState, Fit, Has, Stored, SubmissionRead, knowledge, Loaded, Started}
+use Rattle.machine.specs.Code.{atoms, atomHead, recordFor, nodeFor, nodeIn, nodeAt, termAt, values, SoundState, withNode, Room, isNodeFrom, foundOf, Valued, SubmissionRead, knowledge, Loaded, Started}
 use Rattle.machine.proofs.theory.NodeRecords.{atom-record, record-node}
-use Rattle.machine.proofs.theory.StateGrowth.{decoded-alike, withNode, Room, node-old, node-new}
+use Rattle.machine.proofs.theory.StateGrowth.{decoded-alike, node-old, node-new, Fit, register-stored}
+use Rattle.machine.proofs.theory.NodeSearch.{Absent, found-gives}
 
 -- what holds of the terms, and of the claim, after checks 1 to 5
 pub facts : {s : List ℕ} → SubmissionRead s → Claimed s
 facts {s} w = claimed s (w .bytes) (w .passed)
 
 -- ---- the node of a record
-kind-fits : (κ : Kind) → Fits w8 (128 + kindOf (atomic κ))
+kind-fits : (κ : Kind) → Fits w8 (atomHead κ)
 kind-fits plain = record { fits = omega arith }
 kind-fits public = record { fits = omega arith }
 kind-fits private = record { fits = omega arith }
 
--- a record of no compound kind is an atom's
-atomic-shape : (s : List ℕ) (t : ℕ) (y : Shape) → Shaped s t y → (kindOf y ≡ 4 → ⊥) → (kindOf y ≡ 5 → ⊥) → (kindOf y ≡ 6 → ⊥) → (κ : Kind) × (y ≡ atomic κ)
-atomic-shape s t (atomic κ) f a b c = (κ, refl)
-atomic-shape s t (compound pair) f a b c = absurd (a refl)
-atomic-shape s t (compound (part i)) f a b c = absurd (false≢true (f .1 .1))
-atomic-shape s t (compound (encrypt symmetric)) f a b c = absurd (b refl)
-atomic-shape s t (compound (encrypt asymmetric)) f a b c = absurd (c refl)
-atomic-shape s t (compound (decrypt e)) f a b c = absurd (false≢true (f .1 .1))
-
-pub node-compound : (h : Head) → Listable (compound h) → {s : List ℕ} {t x y : ℕ} {z : TermRead} → IsTerm s t z → x ≡ z .x → y ≡ z .y → z .kind ≡ kindOf (compound h) →
-    record { head = ruleOf h; left = x; right = y } ≡ nodeFor (recordAt s t)
-unfolding recordAt
-node-compound h b {s} {t} e f g k =
-    let q : shapeOf (kindAt s t) ≡ some (compound h) = ap shapeOf (sym (e .kind) ∙ k) ∙ kind-shape (compound h) b in
-    rw (q, f, g, e .x, e .y)
-
-atomic-node : (s : List ℕ) (t : ℕ) (κ : Kind) → shapeOf (kindAt s t) ≡ some (atomic κ) → nodeFor (recordAt s t) ≡ record { head = 128 + kindOf (atomic κ); left = nameAt s t; right = 0 }
+atomic-node : (s : List ℕ) (t : ℕ) (κ : Kind) → shapeOf (kindAt s t) ≡ some (atomic κ) → nodeFor (recordAt s t) ≡ record { head = atomHead κ; left = nameAt s t; right = 0 }
 unfolding recordAt
 atomic-node s t κ p = rw p
 
-module _ {s : List ℕ} {t : ℕ} {z : TermRead} (w : SubmissionRead s) (l : t < terms s) (e : IsTerm s t z) (a : z .kind ≡ 4 → ⊥) (b : z .kind ≡ 5 → ⊥) (c : z .kind ≡ 6 → ⊥) where
-  kind-of : (κ : Kind) × (shapeOf (kindAt s t) ≡ some (atomic κ)) × (z .kind ≡ kindOf (atomic κ))
-  kind-of =
-      let g = facts w .read .good t l in
-      let k : z .kind ≡ kindOf (g .shape) = e .kind ∙ shape-kind _ _ (g .has) in
-      let (κ, q) = atomic-shape s t (g .shape) (g .fits) (λ p. a (k ∙ p)) (λ p. b (k ∙ p)) (λ p. c (k ∙ p)) in
-      (κ, g .has ∙ ap some q, k ∙ ap kindOf q)
+-- an atom's record, or a compound one, by its kind
+module _ {s : List ℕ} {t : ℕ} {z : TermRead} (w : SubmissionRead s) (l : t < terms s) (e : IsTerm s t z) {b : Bool} (a : b ≡ isAtomic (shapeOf (z .kind))) where
+  has-shape : (y : Shape) × (shapeOf (z .kind) ≡ some y) × (shapeOf (kindAt s t) ≡ some y)
+  has-shape = let g = facts w .read .good t l in (g .shape, ap shapeOf (e .kind) ∙ g .has, g .has)
 
-  pub atom-kind-fits : Fits w8 (128 + z .kind)
-  atom-kind-fits = rw (kind-of .2) (kind-fits (kind-of .0))
+  module _ (h : b ≡ true) where
+    kind-of : (κ : Kind) × (shapeOf (kindAt s t) ≡ some (atomic κ)) × (z .kind ≡ kindOf (atomic κ))
+    kind-of = let (y, f, g) = has-shape in go y f g
+      where
+        go : (y : Shape) → shapeOf (z .kind) ≡ some y → shapeOf (kindAt s t) ≡ some y → (κ : Kind) × (shapeOf (kindAt s t) ≡ some (atomic κ)) × (z .kind ≡ kindOf (atomic κ))
+        go (atomic κ) f g = (κ, g, shape-kind _ _ f)
+        go (compound c) f g = absurd (true≢false (sym h ∙ a ∙ ap isAtomic f))
 
-  pub node-atomic : {x y : ℕ} → x ≡ z .x → y ≡ z .y → record { head = 128 + z .kind; left = x * 256 + y; right = 0 } ≡ nodeFor (recordAt s t)
-  node-atomic f g =
-      let (κ, p, q) = kind-of in
-      let r = atomic-node s t κ p in
-      cc (e .x, e .y)
+    pub atom-kind-fits : Fits w8 (atoms + z .kind)
+    atom-kind-fits = rw (kind-of .2) (kind-fits (kind-of .0))
+
+    pub node-atomic : {x y : ℕ} → x ≡ z .x → y ≡ z .y → record { head = atoms + z .kind; left = x * 256 + y; right = 0 } ≡ nodeFor (recordAt s t)
+    node-atomic f g =
+        let (κ, p, q) = kind-of in
+        let r = atomic-node s t κ p in
+        cc (e .x, e .y)
+
+  pub node-compound : {x v y h : ℕ} → b ≡ false → x ≡ z .x → v ≡ cond (isUnary (shapeOf (z .kind))) (z .x) (z .y) → h ≡ builderOf (shapeOf (z .kind)) → y ≡ v →
+      record { head = h; left = x; right = y } ≡ nodeFor (recordAt s t)
+  unfolding recordAt
+  node-compound {x} {v} {y} {h} n f g k i = let (c, p, q) = has-shape in go c p q
+    where
+      go : (c : Shape) → shapeOf (z .kind) ≡ some c → shapeOf (kindAt s t) ≡ some c → record { head = h; left = x; right = y } ≡ nodeFor (recordAt s t)
+      go (atomic κ) p q = absurd (false≢true (sym n ∙ a ∙ ap isAtomic p))
+      go (compound c) p q = rw (q, k, i, g, p, f, e .x, e .y)
 
 -- ---- the terms
 -- the state m holds the first t terms in its arrays
@@ -141,25 +141,31 @@ module _ {s : List ℕ} {m : Machine} {t : ℕ} (w : SubmissionRead s) (f : Fill
 knowledge-length : (s : List ℕ) (n : ℕ) → length (knowledge s n) ≡ n
 knowledge-length s n = length-listed (λ i. term s (entryAt s i)) n
 
+pub used-none : {s : List ℕ} {m : Machine} → Loaded s [] m → m .used ≡ 0
+used-none w = w .used
+
 pub knowledge-none : {s : List ℕ} {m : Machine} → Loaded s [] m → Loaded s (knowledge s 0) m
 unfolding grow
 knowledge-none w = w
 
 module _ {s : List ℕ} {m : Machine} {i n : ℕ} (w : SubmissionRead s) (h : Loaded s (knowledge s i) m) (l : i < n) (c : n ≡ entries s) where
-  pub entry-below : {a x : ℕ} → a ≡ entryAt s i → x ≡ a → x < m .nodes
+  entry-below : {a x : ℕ} → a ≡ entryAt s i → x ≡ a → x < m .nodes
   entry-below e f = omega (arith, facts w .read .entry-below i (omega arith), h .nodes)
 
-  pub entry-space : m .used < 256
-  entry-space = omega (arith, h .used, knowledge-length s i, facts w .read .entries-most)
+  pub entry-space : {k : ℕ} → k ≡ m .used → k < 256
+  entry-space e = omega (arith, h .used, knowledge-length s i, facts w .read .entries-most)
 
-  pub knowledge-more : {a x : ℕ} {r : Machine} → Stored m x r → a ≡ entryAt s i → x ≡ a → Loaded s (knowledge s (i + 1)) r
+  pub knowledge-more : {a x k : ℕ} → length (m .registers) ≡ 256 → a ≡ entryAt s i → x ≡ a → k ≡ m .used →
+      Loaded s (knowledge s (i + 1)) (record { heads = m .heads; lefts = m .lefts; rights = m .rights; nodes = m .nodes; registers = set (m .registers) k x; used = m .used + 1 })
   unfolding grow
-  knowledge-more z e f = rw (add-one i) (record {
-    holds = record { sound = z .holds .sound; is = z .holds .is ∙ ap₂ (λ vs t. vs ++ t ∷ []) (h .holds .is) (h .is _ ∙ ap (term s) (f ∙ e)) };
-    used = simp length-append (omega (arith, z .used, h .used));
-    nodes = z .nodes ∙ h .nodes;
-    is = λ k. z .terms k ∙ h .is k;
-  })
+  knowledge-more g e f q =
+      let z = register-stored (h .holds .sound) (entry-below e f) (rw g (entry-space refl)) q in
+      rw (add-one i) (record {
+        holds = record { sound = z .holds .sound; is = z .holds .is ∙ ap₂ (λ vs t. vs ++ t ∷ []) (h .holds .is) (h .is _ ∙ ap (term s) (f ∙ e)) };
+        used = simp length-append (omega (arith, z .used, h .used));
+        nodes = z .nodes ∙ h .nodes;
+        is = λ k. z .terms k ∙ h .is k;
+      })
 
 pub knowledge-all : {s : List ℕ} {m : Machine} {i n : ℕ} → Loaded s (knowledge s i) m → i ≤ n → n ≤ i → n ≡ entries s → Loaded s (knowledge s (entries s)) m
 knowledge-all {s} {m} {i} {n} h a b c = let e : i ≡ entries s = omega arith in rw (← e) h
@@ -169,32 +175,41 @@ module _ {s : List ℕ} {g : ℕ} {z : TermRead} (w : SubmissionRead s) (e : IsT
   guess-kind : z .kind ≡ kindOf (atomic (facts w .guess-kind))
   guess-kind = e .kind ∙ ap (kindAt s) f ∙ shape-kind _ _ (facts w .guess-shape)
 
-  pub guess-fits : Fits w8 (128 + z .kind)
+  pub guess-fits : Fits w8 (atoms + z .kind)
   guess-fits = rw guess-kind (kind-fits (facts w .guess-kind))
 
   module _ {m : Machine} (name : ℕ) (h : Loaded s (knowledge s (entries s)) m) where
-    guess-record : recordFor (record { head = 128 + z .kind; left = name; right = 0 }) ≡ leaf (facts w .guess-kind) name
+    guess-record : recordFor (record { head = atoms + z .kind; left = name; right = 0 }) ≡ leaf (facts w .guess-kind) name
     guess-record = rw guess-kind (atom-record (facts w .guess-kind) name 0)
 
-    pub guess-fit : Fit m (record { head = 128 + z .kind; left = name; right = 0 })
+    guess-fit : Fit m (record { head = atoms + z .kind; left = name; right = 0 })
     guess-fit = record {
       sound = h .holds .sound;
       canonical = rw guess-record (rw guess-kind refl);
       low = rw guess-record tt;
-      room = omega (arith, h .nodes, facts w .read .terms-most);
     }
 
-    module _ {i : Interned} (d : Has m (record { head = 128 + z .kind; left = name; right = 0 }) i) where
-      pub guess-space : i .machine .used < 256
-      guess-space = omega (arith, d .used, h .used, knowledge-length s (entries s), facts w .read .entries-most)
+    guess-absent : Absent m (record { head = atoms + z .kind; left = name; right = 0 }) 0
+    guess-absent = record { none = λ k b. absurd (omega arith) }
 
-      pub guess-started : {r : Machine} → Stored (i .machine) (i .number) r → Started s name r
-      unfolding initial guessed
-      guess-started q = record {
-        holds = record {
-          sound = q .holds .sound;
-          is = q .holds .is ∙ ap₂ (λ vs t. vs ++ t ∷ []) (d .holds .is ∙ h .holds .is) (d .is ∙ ap (message (termAt m)) guess-record ∙ ap (λ o. atom (atomKind o) name) (sym (facts w .guess-shape)));
-        };
-        used = omega (arith, q .used, d .used, h .used, knowledge-length s (entries s));
-        few = omega (arith, q .nodes, d .few, h .nodes, facts w .read .terms-most);
-      }
+    pub guess-started : {o : Found} {r : Machine} → o ≡ foundOf (first (isNodeFrom (m .heads) (m .lefts) (m .rights) (record { head = atoms + z .kind; left = name; right = 0 }) 0) (m .nodes)) →
+        Valued m (record { head = atoms + z .kind; left = name; right = 0 }) o r → Started s name r
+    unfolding initial guessed
+    guess-started e v =
+        let d = found-gives 0 guess-fit guess-absent e v in
+        record {
+          holds = record {
+            sound = d .holds .sound;
+            is = d .holds .is ∙ ap₂ (λ vs t. vs ++ t ∷ []) (h .holds .is) (ap (message (termAt m)) guess-record ∙ ap (λ o. atom (atomKind o) name) (sym (facts w .guess-shape)));
+          };
+          used = omega (arith, d .used, h .used, knowledge-length s (entries s));
+          few = omega (arith, d .few, h .nodes, facts w .read .terms-most);
+        }
+
+-- the state before the guess has room for it
+module _ {s : List ℕ} {m : Machine} (w : SubmissionRead s) (h : Loaded s (knowledge s (entries s)) m) where
+  pub guess-room : m .nodes < 384
+  guess-room = omega (arith, h .nodes, facts w .read .terms-most)
+
+  pub guess-space : m .used < 256
+  guess-space = omega (arith, h .used, knowledge-length s (entries s), facts w .read .entries-most)

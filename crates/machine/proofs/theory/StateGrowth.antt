@@ -1,7 +1,6 @@
 -- A state with one node or one register more: what it holds.
-use mathlib.Core.Path.{_≡_, refl, sym, ap, _∙_, subst}
-use mathlib.Core.Bool.{true, true≢false}
-use mathlib.Core.Option.{none}
+use mathlib.Core.Path.{_≡_, refl, sym, ap, ap₂, _∙_, subst}
+use mathlib.Core.Bool.{Bool, true, false, true≢false}
 use mathlib.Core.List.{List, [], _∷_, _++_}
 use Prim.Native.Nat.{ℕ, _+_, _<_}
 use native.Mathlib.Nat.{zero-add}
@@ -11,15 +10,13 @@ use lib.ListN.{length, getD, set, List·getD-append}
 use lib.Seq.{getD-set-same, getD-set-other, getD-at}
 use borrow.Author.Count.{below-more}
 use borrow.Author.Tests.{eq-eqb}
-use Rattle.base.specs.First.{first}
-use Rattle.base.proofs.First.{first-none}
 use Rattle.base.specs.Grow.{grow}
 use Rattle.base.proofs.Grow.{length-grow, grow-alike}
-use Rattle.term.specs.Table.{Rec, message, void, decoded, Table}
+use Rattle.term.specs.Table.{Rec, message, void, decoded, Below, Table}
 use Rattle.term.proofs.Table.{extended}
 use Rattle.machine.specs.declared.Node.{Node}
 use Rattle.machine.specs.declared.Machine.{Machine}
-use Rattle.machine.specs.Code.{recordFor, nodeFor, nodeIn, nodeAt, termAt, register, values, SoundState, isNode, Fit, Has, Stored}
+use Rattle.machine.specs.Code.{recordFor, nodeFor, nodeIn, nodeAt, termAt, register, values, SoundState, Holds, sameNode, withNode, withRegister, Room, Gives}
 
 -- ---- tables that are alike
 pub decoded-alike : (r r′ : ℕ → Rec) (n : ℕ) → ((i : ℕ) → i < n → r i ≡ r′ i) → decoded r n ≡ decoded r′ n
@@ -31,8 +28,12 @@ unfolding decoded
 length-decoded r n = length-grow [] _ n ∙ zero-add n
 
 -- ---- one register more
-abbrev pub withRegister : Machine → ℕ → Machine
-withRegister m n = record { heads = m .heads; lefts = m .lefts; rights = m .rights; nodes = m .nodes; registers = set (m .registers) (m .used) n; used = m .used + 1 }
+-- r is the state m with the node n in the next register
+pub record Stored (m : Machine) (n : ℕ) (r : Machine) : Type 0 where
+  pub holds : Holds r (values m ++ termAt m n ∷ [])
+  pub used : r .used ≡ m .used + 1
+  pub nodes : r .nodes ≡ m .nodes
+  pub terms : (k : ℕ) → termAt r k ≡ termAt m k
 
 module _ {m : Machine} {n : ℕ} (w : SoundState m) (l : n < m .nodes) (space : m .used < length (m .registers)) where
   register-old : (r : ℕ) → r < m .used → register (withRegister m n) r ≡ register m r
@@ -66,15 +67,18 @@ module _ {m : Machine} {n : ℕ} (w : SoundState m) (l : n < m .nodes) (space : 
   pub register-stored : {i : ℕ} → i ≡ m .used → Stored m n (record { heads = m .heads; lefts = m .lefts; rights = m .rights; nodes = m .nodes; registers = set (m .registers) i n; used = m .used + 1 })
   register-stored e = rw e (record { holds = record { sound = register-sound; is = register-values }; used = refl; nodes = refl; terms = register-terms })
 
--- ---- one node more
-abbrev pub withNode : Machine → Node → Machine
-withNode m v = record { heads = set (m .heads) (m .nodes) (v .head); lefts = set (m .lefts) (m .nodes) (v .left); rights = set (m .rights) (m .nodes) (v .right); nodes = m .nodes + 1; registers = m .registers; used = m .used }
+pub stored-gives : {m r : Machine} {n : ℕ} → Stored m n r → Gives m (termAt m n) r
+stored-gives s = record { holds = s .holds; used = s .used; few = omega (arith, s .nodes) }
 
--- the state's arrays have room for a node
-pub record Room (m : Machine) : Type 0 where
-  pub heads : m .nodes < length (m .heads)
-  pub lefts : m .nodes < length (m .lefts)
-  pub rights : m .nodes < length (m .rights)
+-- ---- one node more
+-- a node that can be put into the state m
+pub record Fit (m : Machine) (v : Node) : Type 0 where
+  pub sound : SoundState m
+  pub canonical : nodeFor (recordFor v) ≡ v
+  pub low : Below (m .nodes) (recordFor v)
+
+abbrev pub isNode : Machine → Node → ℕ → Bool
+isNode m v k = sameNode (nodeIn m k) v
 
 module _ (m : Machine) (v : Node) (room : Room m) where
   pub node-old : (k : ℕ) → k < m .nodes → nodeIn (withNode m v) k ≡ nodeIn m k
@@ -101,12 +105,13 @@ module _ (m : Machine) (v : Node) (room : Room m) where
   unfolding termAt
   term-new = rw terms (getD-at (decoded (nodeAt m) (m .nodes)) _ [] void (m .nodes) (length-decoded (nodeAt m) (m .nodes)))
 
-  module _ (f : Fit m v) (new : first (isNode m v) (m .nodes) ≡ none) where
+  -- a node that is new goes to the next register
+  module _ (f : Fit m v) (new : (k : ℕ) → k < m .nodes → isNode m v k ≡ false) (space : m .used < length (m .registers)) where
     not-there : (k : ℕ) → k < m .nodes → nodeAt m k ≡ recordFor v → ⊥
     not-there k b e =
         let q : nodeIn m k ≡ v = sym (f .sound .canonical k b) ∙ ap nodeFor e ∙ f .canonical in
         let t : isNode m v k ≡ true = rw (eq-eqb _ _ (ap (λ z. z .head) q), eq-eqb _ _ (ap (λ z. z .left) q), eq-eqb _ _ (ap (λ z. z .right) q)) in
-        true≢false (sym t ∙ first-none (isNode m v) (m .nodes) new k b)
+        true≢false (sym t ∙ new k b)
 
     node-sound : SoundState (withNode m v)
     node-sound = record {
@@ -121,11 +126,11 @@ module _ (m : Machine) (v : Node) (room : Room m) where
     unfolding values
     node-values = grow-alike [] _ _ (m .used) (λ r l b. term-old (register m r) (f .sound .written r b))
 
-    pub node-added : Has m v (record { machine = withNode m v; number = m .nodes })
-    node-added = record {
-      holds = record { sound = node-sound; is = node-values };
-      used = refl;
-      below = omega arith;
-      is = term-new;
-      few = omega arith;
-    }
+    pub node-added : Gives m (message (termAt m) (recordFor v)) (withRegister (withNode m v) (m .nodes))
+    node-added =
+        let s = register-stored {m = withNode m v} {n = m .nodes} node-sound (omega arith) space refl in
+        record {
+          holds = record { sound = s .holds .sound; is = s .holds .is ∙ ap₂ (λ vs t. vs ++ t ∷ []) node-values term-new };
+          used = s .used;
+          few = omega (arith, s .nodes);
+        }

@@ -3,7 +3,7 @@ use mathlib.Core.Path.{_≡_, sym, ap, _∙_}
 use mathlib.Core.Bool.{Bool, true, false, not, cond, or-true}
 use mathlib.Core.Option.{Option}
 use mathlib.Core.List.{List}
-use Prim.Native.Nat.{ℕ, _+_, _*_, _≤_, _<_, suc-le-suc}
+use Prim.Native.Nat.{ℕ, _+_, _*_, _≤_, _<_}
 use lib.Dec.{eqb, ltb}
 use lib.ListN.{length}
 use native.Mathlib.Omega.{arith}
@@ -12,7 +12,7 @@ use Rattle.base.specs.First.{any}
 use Rattle.base.proofs.First.{Passed}
 use Rattle.base.proofs.Scan.{true-any, false-any}
 use Rattle.base.proofs.Says.{says-true, says-ltb, says-and, says-any, denies, not-not-false, or-false}
-use Rattle.term.specs.Rule.{rules, hasOne}
+use Rattle.term.specs.Rule.{rules, isRule, hasOne}
 use Rattle.base.specs.Bytes.{byte}
 use Rattle.submission.specs.Record.{entries}
 use Rattle.term.specs.Relation.{Relation}
@@ -32,13 +32,13 @@ module _ {n x a : ℕ} (b : ℕ) (one : Bool) (e : x ≡ a) where
 
 -- ---- an instruction and a test, where n registers are written
 module _ (n : ℕ) (i : Instruction) where
-  pub bad-rule : 6 < i .rule → true ≡ badInstruction n i
+  pub bad-rule : {o : Bool} → o ≡ isRule (i .rule) → o ≡ false → true ≡ badInstruction n i
   unfolding badInstruction
-  bad-rule l = rw (le-ltb (i .rule) rules l)
+  bad-rule e f = rw (← e, f)
 
-  pub bad-operands : {b r : Bool} → i .rule ≤ 6 → b ≡ hasOne (i .rule) → r ≡ goodRegisters n b (i .left) (i .right) → not r ≡ badInstruction n i
+  pub bad-operands : {o b r : Bool} → o ≡ isRule (i .rule) → o ≡ true → b ≡ hasOne (i .rule) → r ≡ goodRegisters n b (i .left) (i .right) → not r ≡ badInstruction n i
   unfolding badInstruction
-  bad-operands l f g = rw (g, lt-ltb (i .rule) rules (suc-le-suc l), f)
+  bad-operands e t f g = rw (g, ← e, t, f)
 
 module _ (n : ℕ) (t : Test) {o : Option Relation} {k : ℕ} (e : o ≡ relationOf (t .letter)) (f : k ≡ registersOf o) where
   pub bad-letter : k ≡ 0 → true ≡ badTest n t

@@ -1,5 +1,5 @@
 -- `check_claim` meets its contract: a letter that is no way, or the test's outcome.
-use Rattle.submission.proofs.Claims.{stranger-refused, claim-read, claim-good, claim-bad}
+use Rattle.submission.proofs.ClaimTests.{stranger-refused, claim-read, claim-good, claim-bad}
 use borrow.Author.Needs.{needs}
 use Rattle.submission.proofs.check_claim.Statement.{statement}
 use Rattle.submission.proofs.check_claim.Tie as tie

@@ -1,5 +1,5 @@
 -- `check_reading` meets its contract: checks 1 to 4, then check 5.
-use Rattle.submission.proofs.Claims.{reading-refused, reading-goes-on}
+use Rattle.submission.proofs.ClaimTests.{reading-refused, reading-goes-on}
 use borrow.Author.Needs.{needs}
 use Rattle.submission.proofs.check_reading.Statement.{statement}
 use Rattle.submission.proofs.check_reading.Tie as tie

@@ -1,5 +1,5 @@
 -- `claim_fits` meets its contract: the step's range, then the companion's.
-use Rattle.submission.proofs.Claims.{step-out, companion-decides}
+use Rattle.submission.proofs.ClaimTests.{step-out, companion-decides}
 use borrow.Author.Needs.{needs}
 use Rattle.submission.proofs.claim_fits.Statement.{statement}
 use Rattle.submission.proofs.claim_fits.Tie as tie

@@ -1,5 +1,5 @@
 -- `is_in_range` meets its contract: a law for each range.
-use Rattle.submission.proofs.Claims.{below-steps, below-terms, only-zero}
+use Rattle.submission.proofs.ClaimTests.{below-steps, below-terms, only-zero}
 use borrow.Author.Needs.{needs}
 use Rattle.submission.proofs.is_in_range.Statement.{statement}
 use Rattle.submission.proofs.is_in_range.Tie as tie

@@ -1,7 +1,7 @@
 -- `is_letter_wrong` meets its contract: the letters before i are right.
 use Prim.Native.Nat.{_-_}
 use Rattle.base.proofs.Scan.{scan}
-use Rattle.submission.proofs.Contents.{letter-wrong, letter-right}
+use Rattle.submission.proofs.ContentsTests.{letter-wrong, letter-right}
 use Rattle.base.proofs.First.{Passed}
 use Rattle.submission.specs.Contents.{wrongLetter}
 use Rattle.submission.proofs.is_letter_wrong.Statement.{statement}

@@ -1,6 +1,6 @@
 -- `is_record` meets its contract: the last byte by the table of last bytes, then the others.
 use borrow.Author.Needs.{needs}
-use Rattle.submission.proofs.Records.{last-apart, kind-apart, last-same}
+use Rattle.submission.proofs.TermTests.{last-apart, kind-apart, last-same}
 use Rattle.submission.proofs.is_record.Statement.{statement}
 use Rattle.submission.proofs.is_record.Tie as tie
 

@@ -2,7 +2,7 @@
 use Prim.Native.Nat.{_-_}
 use Rattle.base.proofs.Scan.{scan}
 use Rattle.base.proofs.First.{Passed}
-use Rattle.submission.proofs.Records.{same-record}
+use Rattle.submission.proofs.TermTests.{same-record}
 use Rattle.submission.specs.Check.{sameRecord}
 use Rattle.submission.proofs.is_repeated.Statement.{statement}
 use Rattle.submission.proofs.is_repeated.Tie as tie

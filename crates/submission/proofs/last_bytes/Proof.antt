@@ -4,7 +4,7 @@ use native.Mathlib.Omega.{arith}
 use lib.ListN.{length-replicate}
 use borrow.Author.Needs.{needs}
 use Rattle.submission.specs.Code.{LastBytes}
-use Rattle.submission.proofs.Records.{lasts-none, lasts-more, lasts-all}
+use Rattle.submission.proofs.TermTests.{lasts-none, lasts-more, lasts-all}
 use Rattle.submission.proofs.last_bytes.Statement.{statement}
 use Rattle.submission.proofs.last_bytes.Tie as tie
 

@@ -1,5 +1,5 @@
 -- `row_of` meets its contract: the table's rows.
-use Rattle.submission.proofs.Claims.{row-is}
+use Rattle.submission.proofs.ClaimTests.{row-is}
 use borrow.Author.Needs.{needs}
 use Rattle.submission.proofs.row_of.Statement.{statement}
 use Rattle.submission.proofs.row_of.Tie as tie

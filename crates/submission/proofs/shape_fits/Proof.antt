@@ -1,5 +1,5 @@
 -- `shape_fits` meets its contract: one law for each return.
-use Rattle.submission.proofs.Records.{shape-atom, shape-no-x, shape-no-y, shape-none, shape-pair, shape-enc, shape-enca}
+use Rattle.submission.proofs.TermTests.{shape-atom, shape-no-x, shape-one, shape-no-y, shape-two}
 use borrow.Author.Needs.{needs}
 use Rattle.submission.proofs.shape_fits.Statement.{statement}
 use Rattle.submission.proofs.shape_fits.Tie as tie
@@ -16,26 +16,23 @@ returns c = search shape-atom
 returns-2 : tie.Need-returns-2
 returns-2 c = search shape-no-x
 
+is-unary-requires : tie.Need-is-unary-requires
+is-unary-requires c κs = search needs
+
 returns-3 : tie.Need-returns-3
-returns-3 c = search shape-no-y
+returns-3 c = search shape-one
+
+returns-4 : tie.Need-returns-4
+returns-4 c = search shape-no-y
 
 term-at-requires-2 : tie.Need-term-at-requires-2
 term-at-requires-2 c κs = search needs
 
-is-key-requires : tie.Need-is-key-requires
-is-key-requires c κs = search needs
-
-returns-4 : tie.Need-returns-4
-returns-4 c = search shape-pair
+takes-requires : tie.Need-takes-requires
+takes-requires c κs = search needs
 
 returns-5 : tie.Need-returns-5
-returns-5 c = search shape-enc
-
-returns-6 : tie.Need-returns-6
-returns-6 c = search shape-enca
-
-returns-7 : tie.Need-returns-7
-returns-7 c = search shape-none
+returns-5 c = search shape-two
 
 pub shape-fits-spec : {M : Type 1} → statement M
 shape-fits-spec =
@@ -45,10 +42,9 @@ shape-fits-spec =
     is-atom-requires
     returns
     returns-2
+    is-unary-requires
     returns-3
-    term-at-requires-2
-    is-key-requires
     returns-4
-    returns-5
-    returns-6
-    returns-7)
+    term-at-requires-2
+    takes-requires
+    returns-5)

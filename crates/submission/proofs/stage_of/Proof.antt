@@ -1,5 +1,5 @@
 -- `stage_of` meets its contract: a law for each case.
-use Rattle.submission.proofs.Claims.{reading-passed, reading-fails}
+use Rattle.submission.proofs.ClaimTests.{reading-passed, reading-fails}
 use borrow.Author.Needs.{needs}
 use Rattle.submission.proofs.stage_of.Statement.{statement}
 use Rattle.submission.proofs.stage_of.Tie as tie

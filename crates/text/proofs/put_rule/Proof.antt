@@ -1,5 +1,5 @@
 -- One word for each rule number.
-use Rattle.text.proofs.Line.{rule-put, last-rule-put}
+use Rattle.text.proofs.Line.{rule-put, no-rule-put}
 use Rattle.term.specs.Rule.{wordOf}
 use borrow.Author.Needs.{needs}
 use Rattle.text.proofs.put_rule.Statement.{statement}
@@ -94,7 +94,10 @@ same-length-7 c = search needs
 
 returns-7 : tie.Need-returns-7
 unfolding wordOf
-returns-7 c = search (last-rule-put, needs)
+returns-7 c = search (rule-put, needs)
+
+returns-8 : tie.Need-returns-8
+returns-8 c = search (no-rule-put, needs)
 
 pub put-rule-spec : {M : Type 1} → statement M
 put-rule-spec =
@@ -127,4 +130,5 @@ put-rule-spec =
     same-length-6
     returns-6
     same-length-7
-    returns-7)
+    returns-7
+    returns-8)

@@ -1,3 +1,4 @@
+-- `Round::mark` meets its contract: a term that is marked stays so, another is marked now.
 use borrow.Author.Tests.{eq-eqb, ne-eqb}
 use Rattle.deduction.specs.Code.{withMark}
 use borrow.Author.Needs.{needs}

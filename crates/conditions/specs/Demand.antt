@@ -1,0 +1,42 @@
+-- Demands 2 and 3, of checking. What the definitions promise; the contracts of the calls say that the code answers what they give.
+use mathlib.Core.Path.{_≡_}
+use mathlib.Core.Logic.{_↔_}
+use mathlib.Core.List.{List}
+use Prim.Native.Nat.{ℕ, _≤_}
+use lib.ListN.{length, take, drop}
+use Rattle.base.specs.Answer.{done}
+use Rattle.base.specs.Bytes.{Bytes}
+use Rattle.submission.specs.Record.{steps, guess, nameAt}
+use Rattle.program.specs.Program.{bytesOf, programLength}
+use Rattle.machine.specs.Run.{runAnswer}
+use Rattle.conditions.specs.Check.{checkAnswer}
+use Rattle.conditions.specs.Condition.{WellFormed, FiveConditions}
+use Rattle.conditions.specs.Page.{program, pageChecked}
+use Rattle.conditions.specs.Wrong.{WrongGuess}
+
+-- Demand 2: "A submission is accepted exactly when it is well formed, meets the five conditions of document 01 and has a page long
+-- enough", and the acceptance carries N.
+abbrev pub Demand2 : Type 0
+Demand2 =
+    (s : List ℕ) → Bytes s → (room n : ℕ) →
+    (checkAnswer s room ≡ done n) ↔ ((n ≡ steps s) × WellFormed s × FiveConditions s × (programLength (steps s) ≤ room))
+
+-- what is promised of the page after an acceptance that carries n: page is the page before it, page′ the one after it
+pub record KeptPromise (s page : List ℕ) (n : ℕ) (page′ : List ℕ) : Type 0 where
+  -- "the program is what checking wrote on the page: three bytes for each step in the count that the acceptance carries, and four more"
+  pub program : take (programLength n) page′ ≡ bytesOf (program s)
+  -- "An acceptance .. changes the first 3N+4 bytes of the page only."
+  pub rest : drop (programLength n) page′ ≡ drop (programLength n) page
+  -- "There run gets these bytes, the same submission and a name: that of the submission's own guess, which is the right one,
+  pub right : runAnswer s (nameAt s (guess s)) (take (programLength n) page′) ≡ done 1
+  -- or that of a wrong guess, with one and the same program for all names."
+  pub wrong : (name : ℕ) → WrongGuess s name → runAnswer s name (take (programLength n) page′) ≡ done 0
+
+-- Demand 3: every acceptance keeps the promise,
+abbrev pub Demand3 : Type 0
+Demand3 = (s page : List ℕ) → Bytes s → (n : ℕ) → checkAnswer s (length page) ≡ done n → KeptPromise s page n (pageChecked s page)
+
+-- "And every submission that is well formed and meets the five conditions, with page enough, is accepted."
+abbrev pub EveryGoodAccepted : Type 0
+EveryGoodAccepted =
+    (s : List ℕ) → Bytes s → (room : ℕ) → WellFormed s → FiveConditions s → programLength (steps s) ≤ room → checkAnswer s room ≡ done (steps s)

@@ -1,0 +1,52 @@
+-- The kinds' numbers: document 01, 'The submission', Terms. This is the one place that lists them.
+use mathlib.Core.Bool.{Bool, false, _&&_, _||_}
+use mathlib.Core.List.{List, [], _∷_}
+use mathlib.Core.Option.{Option, none, some}
+use Prim.Native.Nat.{ℕ, zero, suc}
+use lib.Dec.{eqb}
+use Rattle.term.specs.Term.{plain, public, private, symmetric, asymmetric, pair, encryption, Second, absent, second, unary, make, Shape, atomic, compound, shape?}
+use Rattle.term.specs.Numbered.{entry, place}
+use Rattle.term.specs.Rule.{rules, ruleOf}
+
+-- "Kinds 1 plain atom, 2 public key, 3 private key .. Kind 4 pair(x, y); 5 enc(x, y) ..; 6 enca(x, y)"
+abbrev pub kinds : List Shape
+kinds =
+    atomic plain
+    ∷ atomic public
+    ∷ atomic private
+    ∷ compound pair
+    ∷ compound (encryption symmetric)
+    ∷ compound (encryption asymmetric)
+    ∷ []
+
+-- kinds count from 1
+unfoldable pub shapeOf : ℕ → Option Shape
+shapeOf zero = none
+shapeOf (suc n) = entry kinds n
+
+-- and back
+abbrev pub kindOf : Shape → ℕ
+kindOf z = suc (place shape? kinds z)
+
+-- a record of this shape has one operand
+abbrev pub isUnary : Option Shape → Bool
+isUnary none = false
+isUnary (some (atomic κ)) = false
+isUnary (some (compound f)) = unary f
+
+-- the rule that builds a term of this shape; `rules`, which is none, where there is no such rule
+abbrev pub builderOf : Option Shape → ℕ
+builderOf none = rules
+builderOf (some (atomic κ)) = rules
+builderOf (some (compound f)) = ruleOf (make f)
+
+-- the second operand of a record of this shape
+abbrev pub secondOf : Option Shape → Second
+secondOf none = absent
+secondOf (some (atomic κ)) = absent
+secondOf (some (compound f)) = second f
+
+-- "Keys of kinds 2 and 3 with one name are each other's inverse", of kinds
+abbrev pub inverseKinds : ℕ → ℕ → Bool
+inverseKinds k j =
+    (eqb k (kindOf (atomic public)) && eqb j (kindOf (atomic private))) || (eqb k (kindOf (atomic private)) && eqb j (kindOf (atomic public)))
