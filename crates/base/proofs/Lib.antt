@@ -1,8 +1,7 @@
 pub mod AnswerLaws
-pub mod Bools
-pub mod Chain
+pub mod BoolLaws
 pub mod First
-pub mod FirstMore
+pub mod FirstGrowing
 pub mod Fit
 pub mod Grow
 pub mod Map
@@ -12,3 +11,4 @@ pub mod Parts
 pub mod Says
 pub mod Scan
 pub mod StageLaws
+pub mod TestChains

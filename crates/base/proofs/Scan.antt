@@ -6,7 +6,7 @@ use borrow.Author.Needs.{needs}
 use borrow.Author.Tests.{eq-eqb, ne-eqb, le-leb, lt-leb, lt-ltb, le-ltb}
 use Rattle.base.specs.First.{any}
 use Rattle.base.proofs.First.{Passed, passed-none, passed-more, passed-any, passed-not-any}
-use Rattle.base.proofs.Bools.{or-left, or-right, or-neither, and-both, and-left, and-right, flag, picked-then, picked-else, not-of-true, not-of-false}
+use Rattle.base.proofs.BoolLaws.{or-left, or-right, or-neither, and-both, and-left, and-right, flag, picked-then, picked-else, not-of-true, not-of-false}
 
 pub true-any : {p : ℕ → Bool} {n i : ℕ} → Passed p n i → i < n → p i ≡ true → true ≡ any p n
 true-any s l t = sym (passed-any s l t)

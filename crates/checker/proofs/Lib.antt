@@ -1,6 +1,3 @@
-pub mod Encoding
-pub mod Examples
-pub mod FromCalls
-pub mod Long
-pub mod Printing
-pub mod PromiseExamples
+pub mod EncodingReturns
+pub mod PrintingReturns
+pub mod theory

@@ -1,11 +1,6 @@
-pub mod Acceptance
-pub mod AcceptanceConditions
-pub mod Program
-pub mod Promise
-pub mod Refusal
-pub mod SecondWay
-pub mod Signal
-pub mod Standing
-pub mod Undone
-pub mod Verdicts
-pub mod Writing
+pub mod CheckReturns
+pub mod PassedFacts
+pub mod ProgramValue
+pub mod SecondWayTests
+pub mod theory
+pub mod UndoneTests

@@ -7,7 +7,7 @@ use lib.Dec.{eqb}
 use lib.ListN.{length, getD, set, replicate, List·getD-map}
 use lib.Seq.{getD-set-same, getD-set-other}
 use Rattle.base.proofs.Says.{Says, says-eqb}
-use Rattle.submission.proofs.Listed.{Listed, listed}
+use Rattle.submission.proofs.theory.ListedTerms.{Listed, listed}
 use Rattle.deduction.specs.Deduce.{at}
 use Rattle.deduction.specs.Code.{TableRead, marksOf}
 

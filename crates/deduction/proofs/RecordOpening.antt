@@ -8,7 +8,7 @@ use Prim.Native.Nat.{ℕ, _<_}
 use lib.Dec.{eqb}
 use lib.ListN.{getD}
 use borrow.Author.Tests.{ne-eqb, eqb-true, eqb-false}
-use Rattle.base.proofs.Bools.{and-right}
+use Rattle.base.proofs.BoolLaws.{and-right}
 use Rattle.base.proofs.Says.{says-eqb, says-or, says-and, says-true}
 use Rattle.term.specs.Term.{symmetric, asymmetric, Form, pair, encryption, Head, make, Shape, atomic, compound}
 use Rattle.term.specs.Kind.{shapeOf, kindOf}

@@ -10,7 +10,7 @@ use native.Mathlib.Omega.{arith}
 use lib.Dec.{eqb}
 use lib.ListN.{length, getD, set, replicate, length-set}
 use borrow.Author.Tests.{eq-eqb, ne-eqb}
-use Rattle.base.proofs.Bools.{or-left, or-right, and-both}
+use Rattle.base.proofs.BoolLaws.{or-left, or-right, and-both}
 use Rattle.base.proofs.Says.{not-not-false}
 use Rattle.term.specs.Step.{Deducible}
 use Rattle.term.proofs.Reach.{known, reach-iff}

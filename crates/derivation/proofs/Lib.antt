@@ -1,7 +1,5 @@
-pub mod Founded
-pub mod Held
-pub mod Premise
-pub mod Register
-pub mod Shape
-pub mod Steps
-pub mod Tests
+pub mod RegistersHeld
+pub mod StepReturns
+pub mod StepShapeTests
+pub mod theory
+pub mod ThreeTests

@@ -1,4 +1,4 @@
--- Theory: what no single function's proof is.
+-- Theory: laws and theorems about the definitions. What is beside it serves the proofs of single functions.
 pub mod InstructionResult
 pub mod KeyNodes
 pub mod NodeRecords

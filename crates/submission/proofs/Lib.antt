@@ -1,9 +1,6 @@
 pub mod ClaimTests
 pub mod ContentsTests
-pub mod Examples
-pub mod FreshLaws
-pub mod GoodRecord
 pub mod InverseTests
-pub mod Listed
 pub mod PassedChecks
 pub mod TermTests
+pub mod theory

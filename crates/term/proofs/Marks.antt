@@ -10,7 +10,7 @@ use lib.Seq.{ext-getD}
 use Rattle.base.specs.First.{any}
 use Rattle.base.specs.Grow.{listed}
 use Rattle.base.proofs.Order.{lt-or-ge}
-use Rattle.base.proofs.Bools.{or-left, or-right, or-neither}
+use Rattle.base.proofs.BoolLaws.{or-left, or-right, or-neither}
 use Rattle.base.proofs.Says.{Says, true-or-false, says-and, says-any, denies}
 use Rattle.base.proofs.Grow.{length-listed, listed-at}
 

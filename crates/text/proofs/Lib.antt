@@ -1,4 +1,2 @@
-pub mod Decimal
-pub mod Length
-pub mod Line
-pub mod Puts
+pub mod LineReturns
+pub mod theory

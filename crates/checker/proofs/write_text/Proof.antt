@@ -1,5 +1,5 @@
 use Rattle.base.proofs.StageLaws.{bytes}
-use Rattle.checker.proofs.Printing.{printed-accepted, printed-refused}
+use Rattle.checker.proofs.PrintingReturns.{printed-accepted, printed-refused}
 use borrow.Author.Needs.{needs}
 use Rattle.checker.proofs.write_text.Statement.{statement}
 use Rattle.checker.proofs.write_text.Tie as tie

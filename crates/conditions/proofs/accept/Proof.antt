@@ -1,5 +1,5 @@
 -- `accept` meets its contract: the page's room, then the program.
-use Rattle.conditions.proofs.Verdicts.{page-out, page-room, page-written}
+use Rattle.conditions.proofs.CheckReturns.{page-out, page-room, page-written}
 use borrow.Author.Needs.{needs}
 use Rattle.conditions.proofs.accept.Statement.{statement}
 use Rattle.conditions.proofs.accept.Tie as tie

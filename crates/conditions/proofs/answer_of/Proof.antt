@@ -1,5 +1,5 @@
 -- `answer_of` meets its contract: a law for each case of the verdict.
-use Rattle.conditions.proofs.Verdicts.{answer-accepted, answer-refused}
+use Rattle.conditions.proofs.CheckReturns.{answer-accepted, answer-refused}
 use borrow.Author.Needs.{needs}
 use Rattle.conditions.proofs.answer_of.Statement.{statement}
 use Rattle.conditions.proofs.answer_of.Tie as tie

@@ -1,5 +1,5 @@
 -- `check` meets its contract: a law for each stage that passed or refused, in the order of the checks.
-use Rattle.conditions.proofs.Verdicts.{reading-out, reading-limited, reading-claim, steps-out, steps-registered, steps-founded, conditions-out, met-acceptable}
+use Rattle.conditions.proofs.CheckReturns.{reading-out, reading-limited, reading-claim, steps-out, steps-registered, steps-founded, conditions-out, met-acceptable}
 use borrow.Author.Needs.{needs}
 use Rattle.conditions.proofs.check.Statement.{statement}
 use Rattle.conditions.proofs.check.Tie as tie

@@ -5,14 +5,14 @@ use mathlib.Core.Bool.{Bool, true, _&&_, _||_, false≢true}
 use mathlib.Core.List.{List}
 use Prim.Native.Nat.{ℕ, zero, suc, _<_}
 use native.Mathlib.Omega.{arith}
-use Rattle.base.proofs.Bools.{or-left, or-right, and-both}
+use Rattle.base.proofs.BoolLaws.{or-left, or-right, and-both}
 use Rattle.base.proofs.Says.{Says, says-and, says-or, says-true}
 use Rattle.term.specs.Term.{make, Term, Message}
 use Rattle.term.specs.Table.{Rec, leaf, branch, Below}
 use Rattle.term.proofs.Deducibility.{Built, given, made, built-node}
 use Rattle.term.proofs.Table.{branch-of, node-of, part-below}
 use Rattle.submission.specs.Record.{terms, recordAt, term}
-use Rattle.submission.proofs.Listed.{Listed}
+use Rattle.submission.proofs.theory.ListedTerms.{Listed}
 use Rattle.deduction.specs.Deduce.{at, partsBuilt, builtWithin, built, Marked}
 use Rattle.deduction.specs.Code.{SameMarks}
 

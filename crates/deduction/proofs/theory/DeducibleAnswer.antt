@@ -18,7 +18,7 @@ use Rattle.base.specs.Bytes.{Bytes}
 use Rattle.submission.specs.Check.{checks1to4}
 use Rattle.submission.specs.Record.{terms, entryAt, recordAt, term, InKnowledge}
 use Rattle.base.proofs.AnswerLaws.{then-passes, if-passes, answered-done}
-use Rattle.submission.proofs.Listed.{Listed, listed}
+use Rattle.submission.proofs.theory.ListedTerms.{Listed, listed}
 use Rattle.deduction.specs.Deduce.{entryMarks, isDeducible, Marked, deducibleAnswer, Alike}
 use Rattle.deduction.proofs.theory.Exactness.{deducible-from-iff, deducible-trans, deducible-iff}
 

@@ -11,7 +11,7 @@ use borrow.Author.Tests.{eq-eqb}
 use Rattle.base.specs.First.{any}
 use Rattle.base.specs.Grow.{listed}
 use Rattle.base.proofs.Says.{Says, says-eqb, says-and, says-or, says-any, says-true, same-test}
-use Rattle.base.proofs.Bools.{or-left, or-right, and-both}
+use Rattle.base.proofs.BoolLaws.{or-left, or-right, and-both}
 use Rattle.base.proofs.Grow.{length-listed, listed-at}
 use Rattle.term.specs.Term.{Cipher, symmetric, asymmetric, left, right, pair, encryption, Head, make, part, decrypt, Term, node, Match}
 use Rattle.term.specs.Step.{Deducible}
@@ -22,7 +22,7 @@ use Rattle.term.proofs.Deducibility.{Built, Analysed, built-reach, built-atom, 
 use Rattle.term.proofs.Table.{branch-of, node-of, part-below}
 use Rattle.term.proofs.Marks.{rounds-keep, rounds-sound, rounds-closed}
 use Rattle.submission.specs.Record.{terms, entries, entryAt, recordAt, areInverse, term, InKnowledge}
-use Rattle.submission.proofs.Listed.{Listed}
+use Rattle.submission.proofs.theory.ListedTerms.{Listed}
 use Rattle.deduction.specs.Deduce.{at, built, opens, gives, taken, round, isEntry, entryMarks, rounds, isDeducible, Marked}
 use Rattle.deduction.specs.Code.{SameMarks}
 use Rattle.deduction.proofs.theory.BuildTestLaws.{same-built, says-built}

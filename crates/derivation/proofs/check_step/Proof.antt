@@ -1,5 +1,5 @@
 -- `check_step` is check 6 of a step, then its check 7.
-use Rattle.derivation.proofs.Steps.{step-6, step-7, step-right}
+use Rattle.derivation.proofs.StepReturns.{step-6, step-7, step-right}
 use borrow.Author.Needs.{needs}
 use Rattle.derivation.proofs.check_step.Statement.{statement}
 use Rattle.derivation.proofs.check_step.Tie as tie

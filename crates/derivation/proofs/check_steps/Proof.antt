@@ -6,8 +6,8 @@ use Rattle.base.proofs.First.{Passed, passed-none}
 use Rattle.submission.specs.Record.{steps}
 use Rattle.derivation.specs.Register.{written}
 use Rattle.derivation.specs.Code.{Registered}
-use Rattle.derivation.proofs.Held.{result-written}
-use Rattle.derivation.proofs.Steps.{faulty, steps-go-on, steps-stop, steps-end}
+use Rattle.derivation.proofs.RegistersHeld.{result-written}
+use Rattle.derivation.proofs.StepReturns.{faulty, steps-go-on, steps-stop, steps-end}
 use Rattle.derivation.proofs.check_steps.Statement.{statement}
 use Rattle.derivation.proofs.check_steps.Tie as tie
 

@@ -1,5 +1,5 @@
 -- `follows` is the table of steps: each arm is its rule's row.
-use Rattle.derivation.proofs.Shape.{dec-built, rule-built}
+use Rattle.derivation.proofs.StepShapeTests.{dec-built, rule-built}
 use Rattle.term.specs.Rule.{headOf}
 use borrow.Author.Needs.{needs}
 use Rattle.derivation.proofs.follows.Statement.{statement}

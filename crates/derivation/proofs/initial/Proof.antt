@@ -3,7 +3,7 @@ use Prim.Native.Nat.{_-_, _≤_}
 use native.Mathlib.Omega.{arith}
 use borrow.Author.Needs.{needs}
 use Rattle.derivation.specs.Code.{Registered}
-use Rattle.derivation.proofs.Held.{registered-none, entry-written, guess-written}
+use Rattle.derivation.proofs.RegistersHeld.{registered-none, entry-written, guess-written}
 use Rattle.derivation.proofs.initial.Statement.{statement}
 use Rattle.derivation.proofs.initial.Tie as tie
 

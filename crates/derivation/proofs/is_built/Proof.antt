@@ -1,5 +1,5 @@
 -- `is_built` makes three tests one after the other.
-use Rattle.derivation.proofs.Tests.{tests}
+use Rattle.derivation.proofs.ThreeTests.{tests}
 use borrow.Author.Needs.{needs}
 use Rattle.derivation.proofs.is_built.Statement.{statement}
 use Rattle.derivation.proofs.is_built.Tie as tie

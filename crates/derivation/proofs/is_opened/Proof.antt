@@ -1,5 +1,5 @@
 -- `is_opened` makes three tests one after the other, the last by `are_inverse`.
-use Rattle.derivation.proofs.Tests.{tests}
+use Rattle.derivation.proofs.ThreeTests.{tests}
 use borrow.Author.Needs.{needs}
 use Rattle.derivation.proofs.is_opened.Statement.{statement}
 use Rattle.derivation.proofs.is_opened.Tie as tie

@@ -1,5 +1,5 @@
 -- `is_part` makes three tests one after the other.
-use Rattle.derivation.proofs.Tests.{tests}
+use Rattle.derivation.proofs.ThreeTests.{tests}
 use borrow.Author.Needs.{needs}
 use Rattle.derivation.proofs.is_part.Statement.{statement}
 use Rattle.derivation.proofs.is_part.Tie as tie

@@ -1,5 +1,5 @@
 -- `is_step_bad` is check 6 of a step, one test at a time.
-use Rattle.derivation.proofs.Shape.{bad-rule, good-rule, bad-first, bad-second, bad-conclusion, bad-shape}
+use Rattle.derivation.proofs.StepShapeTests.{bad-rule, good-rule, bad-first, bad-second, bad-conclusion, bad-shape}
 use borrow.Author.Tests.{not-true, not-false}
 use borrow.Author.Needs.{needs}
 use Rattle.derivation.proofs.is_step_bad.Statement.{statement}

@@ -1,5 +1,5 @@
 -- `is_unfounded` is check 7 of a step: a look at the registers for each premise.
-use Rattle.derivation.proofs.Steps.{first-unknown, second-decides}
+use Rattle.derivation.proofs.StepReturns.{first-unknown, second-decides}
 use borrow.Author.Needs.{needs}
 use Rattle.derivation.proofs.is_unfounded.Statement.{statement}
 use Rattle.derivation.proofs.is_unfounded.Tie as tie

@@ -1,7 +1,7 @@
 -- `run` answers what checks 1 to 5, check 13 and the machine give.
 use Rattle.base.proofs.StageLaws.{bytes}
 use Rattle.machine.proofs.theory.RunAnswer.{read, test-ready, run-stopped, run-refused, run-signals}
-use Rattle.base.proofs.Bools.{flag}
+use Rattle.base.proofs.BoolLaws.{flag}
 use borrow.Author.Needs.{needs}
 use Rattle.machine.proofs.run.Statement.{statement}
 use Rattle.machine.proofs.run.Tie as tie

@@ -20,7 +20,7 @@ use Rattle.term.specs.Table.{leaf, message, void, decoded, Table}
 use Rattle.submission.specs.declared.Term.{Term as TermRead}
 use Rattle.submission.specs.Record.{terms, entries, entryAt, guess, kindAt, nameAt, recordAt, term}
 use Rattle.submission.specs.Code.{IsTerm}
-use Rattle.submission.proofs.Listed.{Claimed, claimed}
+use Rattle.submission.proofs.theory.ListedTerms.{Claimed, claimed}
 use Rattle.machine.specs.declared.Node.{Node}
 use Rattle.machine.specs.declared.Machine.{Machine}
 use Rattle.machine.specs.declared.Found.{Found}

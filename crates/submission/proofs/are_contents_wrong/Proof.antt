@@ -1,6 +1,6 @@
 -- `are_contents_wrong` meets its contract: the parts of check 1, one after the other.
-use Rattle.base.proofs.Chain.{chain, told-eqb, told-not}
-use Rattle.base.proofs.Bools.{flag}
+use Rattle.base.proofs.TestChains.{chain, told-eqb, told-not}
+use Rattle.base.proofs.BoolLaws.{flag}
 use borrow.Author.Tests.{lt-ltb, le-ltb}
 use Rattle.submission.specs.Contents.{badContents}
 use borrow.Author.Needs.{needs}

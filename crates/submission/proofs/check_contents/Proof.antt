@@ -1,5 +1,5 @@
 -- `check_contents` meets its contract: the test's outcome is check 1.
-use Rattle.base.proofs.Bools.{flag}
+use Rattle.base.proofs.BoolLaws.{flag}
 use Rattle.base.proofs.StageLaws.{fails-if, passes-if}
 use borrow.Author.Needs.{needs}
 use Rattle.submission.proofs.check_contents.Statement.{statement}

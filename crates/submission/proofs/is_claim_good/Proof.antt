@@ -1,6 +1,6 @@
 -- `is_claim_good` meets its contract: the guess, the step and the companion, one after the other.
 use borrow.Author.Tests.{not-true, not-false}
-use Rattle.base.proofs.Chain.{chain, above-ltb, below-ltb}
+use Rattle.base.proofs.TestChains.{chain, above-ltb, below-ltb}
 use Rattle.submission.proofs.ClaimTests.{guess-atom}
 use Rattle.submission.specs.Check.{goodClaim}
 use borrow.Author.Needs.{needs}

@@ -1,6 +1,6 @@
 -- `is_entry_bad` meets its contract: the bound, then the earlier entries.
-use Rattle.base.proofs.Chain.{chain, below-ltb, above-ltb}
-use Rattle.base.proofs.Bools.{not-of-true, not-of-false}
+use Rattle.base.proofs.TestChains.{chain, below-ltb, above-ltb}
+use Rattle.base.proofs.BoolLaws.{not-of-true, not-of-false}
 use Rattle.submission.specs.Check.{badKnowledge}
 use borrow.Author.Needs.{needs}
 use Rattle.submission.proofs.is_entry_bad.Statement.{statement}

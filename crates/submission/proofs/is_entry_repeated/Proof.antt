@@ -3,7 +3,7 @@ use Rattle.base.proofs.First.{passed-more}
 use Prim.Native.Nat.{_-_}
 use Rattle.base.proofs.Scan.{scan}
 use Rattle.base.proofs.First.{Passed}
-use Rattle.base.proofs.Chain.{same-eqb, apart-eqb}
+use Rattle.base.proofs.TestChains.{same-eqb, apart-eqb}
 use lib.Dec.{eqb}
 use Rattle.submission.specs.Record.{entryAt}
 use Rattle.submission.proofs.is_entry_repeated.Statement.{statement}

@@ -1,6 +1,6 @@
 -- The number falls at each call of itself: its last digit stands after the digits of the tenth.
 use borrow.Author.Needs.{needs}
-use Rattle.text.proofs.Decimal.{number-small, number-more}
+use Rattle.text.proofs.theory.Decimal.{number-small, number-more}
 use Prim.Native.Nat.{ℕ, _<_}
 use borrow.Fn.Kinds.{In}
 use borrow.Fn.PlainCycle.{Measures, is, falls, and}

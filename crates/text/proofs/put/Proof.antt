@@ -1,5 +1,5 @@
 -- One byte, or none where the buffer is full.
-use Rattle.text.proofs.Puts.{puts-full}
+use Rattle.text.proofs.theory.PutLaws.{puts-full}
 use borrow.Author.Needs.{needs}
 use Rattle.text.proofs.put.Statement.{statement}
 use Rattle.text.proofs.put.Tie as tie

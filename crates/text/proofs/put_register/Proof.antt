@@ -1,5 +1,5 @@
 -- The letter r, then the number.
-use Rattle.text.proofs.Line.{register-put}
+use Rattle.text.proofs.LineReturns.{register-put}
 use borrow.Author.Needs.{needs}
 use Rattle.text.proofs.put_register.Statement.{statement}
 use Rattle.text.proofs.put_register.Tie as tie

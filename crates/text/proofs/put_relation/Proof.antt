@@ -1,6 +1,6 @@
 -- One word for each relation.
-use Rattle.text.proofs.Line.{relation-put}
-use Rattle.text.proofs.Puts.{puts-none}
+use Rattle.text.proofs.LineReturns.{relation-put}
+use Rattle.text.proofs.theory.PutLaws.{puts-none}
 use borrow.Author.Needs.{needs}
 use Rattle.text.proofs.put_relation.Statement.{statement}
 use Rattle.text.proofs.put_relation.Tie as tie

@@ -1,5 +1,5 @@
 -- One word for each rule number.
-use Rattle.text.proofs.Line.{rule-put, no-rule-put}
+use Rattle.text.proofs.LineReturns.{rule-put, no-rule-put}
 use Rattle.term.specs.Rule.{wordOf}
 use borrow.Author.Needs.{needs}
 use Rattle.text.proofs.put_rule.Statement.{statement}

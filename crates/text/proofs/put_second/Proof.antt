@@ -1,5 +1,5 @@
 -- Nothing under fst and snd, else a space and the register.
-use Rattle.text.proofs.Line.{one-put, two-put}
+use Rattle.text.proofs.LineReturns.{one-put, two-put}
 use borrow.Author.Needs.{needs}
 use Rattle.text.proofs.put_second.Statement.{statement}
 use Rattle.text.proofs.put_second.Tie as tie

@@ -1,5 +1,5 @@
 -- The pieces of an instruction's line, in the order of the calls.
-use Rattle.text.proofs.Line.{step-put}
+use Rattle.text.proofs.LineReturns.{step-put}
 use borrow.Author.Needs.{needs}
 use Rattle.text.proofs.put_step.Statement.{statement}
 use Rattle.text.proofs.put_step.Tie as tie

@@ -1,10 +1,10 @@
 -- The loop's invariant: the lines of the instructions passed stand in the buffer.
-use Rattle.text.proofs.Line.{steps-none, steps-more, steps-all}
+use Rattle.text.proofs.LineReturns.{steps-none, steps-more, steps-all}
 use borrow.Author.Needs.{needs}
 use Prim.Native.Nat.{_≤_, _-_}
 use Rattle.text.specs.Text.{stepLines}
 use Rattle.text.specs.Puts.{Puts}
-use Rattle.text.proofs.Puts.{puts-length}
+use Rattle.text.proofs.theory.PutLaws.{puts-length}
 use Rattle.text.proofs.put_steps.Statement.{statement}
 use Rattle.text.proofs.put_steps.Tie as tie
 

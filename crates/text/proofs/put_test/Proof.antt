@@ -1,5 +1,5 @@
 -- The pieces of the test's line, in the order of the calls.
-use Rattle.text.proofs.Line.{test-put}
+use Rattle.text.proofs.LineReturns.{test-put}
 use borrow.Author.Needs.{needs}
 use Rattle.text.proofs.put_test.Statement.{statement}
 use Rattle.text.proofs.put_test.Tie as tie

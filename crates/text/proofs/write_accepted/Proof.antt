@@ -1,5 +1,5 @@
 -- The pieces of an acceptance, in the order of the calls.
-use Rattle.text.proofs.Line.{accepted-put}
+use Rattle.text.proofs.LineReturns.{accepted-put}
 use borrow.Author.Needs.{needs}
 use Rattle.text.proofs.write_accepted.Statement.{statement}
 use Rattle.text.proofs.write_accepted.Tie as tie

@@ -1,5 +1,5 @@
 -- The pieces of a refusal, in the order of the calls.
-use Rattle.text.proofs.Line.{refused-put}
+use Rattle.text.proofs.LineReturns.{refused-put}
 use borrow.Author.Needs.{needs}
 use Rattle.text.proofs.write_refused.Statement.{statement}
 use Rattle.text.proofs.write_refused.Tie as tie

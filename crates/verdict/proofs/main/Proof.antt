@@ -1,4 +1,4 @@
-use Rattle.text.proofs.Puts.{puts-taken}
+use Rattle.text.proofs.theory.PutLaws.{puts-taken}
 use borrow.Author.Needs.{needs}
 use Rattle.verdict.proofs.main.Statement.{statement}
 use Rattle.verdict.proofs.main.Tie as tie

@@ -1,5 +1,5 @@
 -- `checker_check` meets its contract: the verdict of `check`, as one number.
-use Rattle.checker.proofs.Encoding.{written-as}
+use Rattle.checker.proofs.EncodingReturns.{written-as}
 use borrow.Author.Needs.{needs}
 use Rattle.checker.proofs.calls.checker_check.Statement.{statement}
 use Rattle.checker.proofs.calls.checker_check.Tie as tie

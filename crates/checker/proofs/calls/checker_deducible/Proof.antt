@@ -1,5 +1,5 @@
 -- `checker_deducible` meets its contract: the answer of `deducible`.
-use Rattle.checker.proofs.Encoding.{encoded-as}
+use Rattle.checker.proofs.EncodingReturns.{encoded-as}
 use borrow.Author.Needs.{needs}
 use Rattle.checker.proofs.calls.checker_deducible.Statement.{statement}
 use Rattle.checker.proofs.calls.checker_deducible.Tie as tie

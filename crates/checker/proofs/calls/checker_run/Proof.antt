@@ -1,5 +1,5 @@
 -- `checker_run` meets its contract: the answer of `run`.
-use Rattle.checker.proofs.Encoding.{encoded-as}
+use Rattle.checker.proofs.EncodingReturns.{encoded-as}
 use borrow.Author.Needs.{needs}
 use Rattle.checker.proofs.calls.checker_run.Statement.{statement}
 use Rattle.checker.proofs.calls.checker_run.Tie as tie

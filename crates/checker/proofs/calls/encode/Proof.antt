@@ -1,5 +1,5 @@
 -- `encode` meets its contract: a law for each case of the answer.
-use Rattle.checker.proofs.Encoding.{encoded-done, encoded-refused}
+use Rattle.checker.proofs.EncodingReturns.{encoded-done, encoded-refused}
 use borrow.Author.Needs.{needs}
 use Rattle.checker.proofs.calls.encode.Statement.{statement}
 use Rattle.checker.proofs.calls.encode.Tie as tie

@@ -1,8 +1,8 @@
 -- `check_conditions` meets its contract: checks 8 to 10, in this order.
-use Rattle.conditions.proofs.Standing.{founded}
+use Rattle.conditions.proofs.PassedFacts.{founded}
 use Rattle.base.proofs.StageLaws.{stopped, went-on}
 -- `check_conditions` meets its contract: checks 8 to 10, in this order.
-use Rattle.conditions.proofs.Standing.{founded}
+use Rattle.conditions.proofs.PassedFacts.{founded}
 use Rattle.base.proofs.StageLaws.{stopped, went-on}
 use borrow.Author.Needs.{needs}
 use Rattle.conditions.proofs.conditions.check_conditions.Statement.{statement}

@@ -1,7 +1,7 @@
 -- `check_reachable` meets its contract: check 8.
 use Rattle.base.proofs.Scan.{scan}
 use Rattle.base.proofs.StageLaws.{passes-if}
-use Rattle.conditions.proofs.Standing.{fails-at-step}
+use Rattle.conditions.proofs.PassedFacts.{fails-at-step}
 use borrow.Author.Needs.{needs}
 use Rattle.conditions.proofs.conditions.check_reachable.Statement.{statement}
 use Rattle.conditions.proofs.conditions.check_reachable.Tie as tie

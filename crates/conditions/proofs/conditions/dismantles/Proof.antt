@@ -1,6 +1,6 @@
 -- `checker::conditions::dismantles` meets its contract: the rules, then the term.
-use Rattle.base.proofs.Chain.{chain}
-use Rattle.base.proofs.Bools.{flag}
+use Rattle.base.proofs.TestChains.{chain}
+use Rattle.base.proofs.BoolLaws.{flag}
 use borrow.Author.Needs.{needs}
 use Rattle.conditions.proofs.conditions.dismantles.Statement.{statement}
 use Rattle.conditions.proofs.conditions.dismantles.Tie as tie

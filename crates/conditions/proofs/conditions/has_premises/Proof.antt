@@ -1,5 +1,5 @@
 -- `checker::conditions::has_premises` meets its contract: one test a return.
-use Rattle.conditions.proofs.SecondWay.{premises}
+use Rattle.conditions.proofs.SecondWayTests.{premises}
 use Rattle.base.proofs.Scan.{scan}
 use borrow.Author.Needs.{needs}
 use Rattle.conditions.proofs.conditions.has_premises.Statement.{statement}

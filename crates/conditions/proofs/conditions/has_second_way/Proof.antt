@@ -1,5 +1,5 @@
 -- `has_second_way` meets its contract: a law for each way.
-use Rattle.conditions.proofs.SecondWay.{ways}
+use Rattle.conditions.proofs.SecondWayTests.{ways}
 use Rattle.base.proofs.Scan.{scan}
 use borrow.Author.Needs.{needs}
 use Rattle.conditions.proofs.conditions.has_second_way.Statement.{statement}

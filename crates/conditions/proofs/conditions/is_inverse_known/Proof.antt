@@ -1,6 +1,6 @@
 -- `checker::conditions::is_inverse_known` meets its contract: one test a return.
-use Rattle.base.proofs.Chain.{chain}
-use Rattle.conditions.proofs.SecondWay.{ways}
+use Rattle.base.proofs.TestChains.{chain}
+use Rattle.conditions.proofs.SecondWayTests.{ways}
 use Rattle.base.proofs.Scan.{scan}
 use borrow.Author.Needs.{needs}
 use Rattle.conditions.proofs.conditions.is_inverse_known.Statement.{statement}

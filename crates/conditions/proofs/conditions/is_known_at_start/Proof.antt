@@ -1,5 +1,5 @@
 -- `checker::conditions::is_known_at_start` meets its contract: the registers before step 0 are those of the knowledge and the guess.
-use Rattle.conditions.proofs.SecondWay.{ways}
+use Rattle.conditions.proofs.SecondWayTests.{ways}
 use Rattle.base.proofs.Scan.{scan}
 use borrow.Author.Needs.{needs}
 use Rattle.conditions.proofs.conditions.is_known_at_start.Statement.{statement}

@@ -1,5 +1,5 @@
 -- `checker::conditions::is_other_way` meets its contract: one test a return.
-use Rattle.conditions.proofs.SecondWay.{premises}
+use Rattle.conditions.proofs.SecondWayTests.{premises}
 use Rattle.base.proofs.Scan.{scan}
 use borrow.Author.Needs.{needs}
 use Rattle.conditions.proofs.conditions.is_other_way.Statement.{statement}

@@ -1,6 +1,6 @@
 -- `is_reachable` meets its contract: both premises are listed terms.
 use Rattle.deduction.proofs.CallReturns.{both-known}
-use Rattle.conditions.proofs.Standing.{founded}
+use Rattle.conditions.proofs.PassedFacts.{founded}
 use borrow.Author.Needs.{needs}
 use Rattle.conditions.proofs.conditions.is_reachable.Statement.{statement}
 use Rattle.conditions.proofs.conditions.is_reachable.Tie as tie

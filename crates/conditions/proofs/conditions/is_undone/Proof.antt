@@ -1,5 +1,5 @@
 -- `is_undone` meets its contract: the verifying step, then the companion where the way asks for it.
-use Rattle.conditions.proofs.Undone.{undoing}
+use Rattle.conditions.proofs.UndoneTests.{undoing}
 use Rattle.base.proofs.Scan.{scan}
 use borrow.Author.Needs.{needs}
 use Rattle.conditions.proofs.conditions.is_undone.Statement.{statement}

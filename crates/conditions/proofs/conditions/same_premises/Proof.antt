@@ -1,5 +1,5 @@
 -- `checker::conditions::same_premises` meets its contract: one test a return.
-use Rattle.base.proofs.Chain.{chain}
+use Rattle.base.proofs.TestChains.{chain}
 use Rattle.conditions.specs.Check.{samePremises}
 use Rattle.base.proofs.Scan.{scan}
 use borrow.Author.Needs.{needs}

@@ -1,5 +1,5 @@
 -- `checker::conditions::undoes_step` meets its contract: step j dismantles step i, or the reverse.
-use Rattle.conditions.proofs.Undone.{undoing}
+use Rattle.conditions.proofs.UndoneTests.{undoing}
 use borrow.Author.Needs.{needs}
 use Rattle.conditions.proofs.conditions.undoes_step.Statement.{statement}
 use Rattle.conditions.proofs.conditions.undoes_step.Tie as tie

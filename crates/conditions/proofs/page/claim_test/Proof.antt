@@ -1,5 +1,5 @@
 -- `claim_test` meets its contract: the row of the claim's way.
-use Rattle.conditions.proofs.Writing.{left-held, right-held, test-is}
+use Rattle.conditions.proofs.ProgramValue.{left-held, right-held, test-is}
 use borrow.Author.Needs.{needs}
 use Rattle.conditions.proofs.page.claim_test.Statement.{statement}
 use Rattle.conditions.proofs.page.claim_test.Tie as tie

@@ -1,5 +1,5 @@
 -- `checker::page::instruction_of` meets its contract: a premise is known, so its lowest register is the one that the struct holds.
-use Rattle.conditions.proofs.Writing.{instructions}
+use Rattle.conditions.proofs.ProgramValue.{instructions}
 use borrow.Author.Needs.{needs}
 use Rattle.conditions.proofs.page.instruction_of.Statement.{statement}
 use Rattle.conditions.proofs.page.instruction_of.Tie as tie

@@ -1,5 +1,5 @@
 -- `named` meets its contract: a law for each operand.
-use Rattle.conditions.proofs.Writing.{operands}
+use Rattle.conditions.proofs.ProgramValue.{operands}
 use borrow.Author.Needs.{needs}
 use Rattle.conditions.proofs.page.named.Statement.{statement}
 use Rattle.conditions.proofs.page.named.Tie as tie

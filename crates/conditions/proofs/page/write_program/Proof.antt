@@ -1,5 +1,5 @@
 -- `write_program` meets its contract: the value that was computed is written.
-use Rattle.conditions.proofs.Writing.{count-few, count-room, value-written}
+use Rattle.conditions.proofs.ProgramValue.{count-few, count-room, value-written}
 use borrow.Author.Needs.{needs}
 use Rattle.conditions.proofs.page.write_program.Statement.{statement}
 use Rattle.conditions.proofs.page.write_program.Tie as tie

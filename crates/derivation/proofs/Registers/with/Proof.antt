@@ -1,5 +1,5 @@
 -- `Registers::with` stores the next register at a term that has none, and nowhere else.
-use Rattle.derivation.proofs.Held.{added-kept, added-stored}
+use Rattle.derivation.proofs.RegistersHeld.{added-kept, added-stored}
 use borrow.Author.Needs.{needs}
 use Rattle.derivation.proofs.Registers.with.Statement.{statement}
 use Rattle.derivation.proofs.Registers.with.Tie as tie

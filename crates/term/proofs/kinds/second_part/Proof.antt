@@ -1,5 +1,5 @@
 -- `second_part` meets its contract.
-use Rattle.base.proofs.Bools.{picked-then, picked-else, flag}
+use Rattle.base.proofs.BoolLaws.{picked-then, picked-else, flag}
 use borrow.Author.Needs.{needs}
 use Rattle.term.proofs.kinds.second_part.Statement.{statement}
 use Rattle.term.proofs.kinds.second_part.Tie as tie

@@ -15,9 +15,9 @@ use Rattle.term.specs.Rule.{rules, headOf, hasOne}
 use Rattle.base.specs.Answer.{passes}
 use Rattle.submission.specs.Record.{terms, steps, kindAt, xAt, yAt, ruleAt, pAt, qAt, conclusionAt, term}
 use Rattle.base.proofs.AnswerLaws.{fails-not-passes}
-use Rattle.submission.proofs.Listed.{Listed, compound-term}
+use Rattle.submission.proofs.theory.ListedTerms.{Listed, compound-term}
 use Rattle.derivation.specs.Step.{secondAt, isRecord, partAt, opensWith, follows, badStep, unfounded, stepFault, checkSteps}
-use Rattle.derivation.proofs.Register.{KnownNumber, says-known}
+use Rattle.derivation.proofs.theory.RegisterTerms.{KnownNumber, says-known}
 
 -- ---- check 6
 module _ {s : List ℕ} (z : Listed s) where

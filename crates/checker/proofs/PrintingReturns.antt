@@ -7,10 +7,10 @@ use lib.ListN.{replicate, length-replicate}
 use Rattle.base.specs.Answer.{Answer, done, refused}
 use Rattle.base.specs.Bytes.{Bytes}
 use Rattle.submission.specs.Record.{entries}
-use Rattle.submission.proofs.Listed.{claimed}
+use Rattle.submission.proofs.theory.ListedTerms.{claimed}
 use Rattle.text.specs.Text.{answerText, refusedText}
 use Rattle.text.specs.Puts.{Puts}
-use Rattle.text.proofs.Length.{accepted-whole, refused-whole}
+use Rattle.text.proofs.theory.TextLength.{accepted-whole, refused-whole}
 use Rattle.conditions.specs.declared.Verdict.{Verdict}
 use Rattle.conditions.specs.declared.Verdict.the-variants.{Accepted, Refused}
 use Rattle.conditions.specs.Check.{checkAnswer}
@@ -18,7 +18,7 @@ use Rattle.conditions.specs.Page.{pageChecked}
 use Rattle.checker.specs.Text.{verdictText}
 use Rattle.conditions.specs.Calls.{verdictAnswer, Checked}
 use Rattle.checker.specs.Calls.{Printed}
-use Rattle.conditions.proofs.Acceptance.{accepted-iff}
+use Rattle.conditions.proofs.theory.Acceptance.{accepted-iff}
 
 module _ (s : List ℕ) {page : List ℕ} (v : Verdict) (c : Checked s (replicate 388 0) v page) where
   -- the text, from the answer that the page of 388 bytes got

@@ -20,14 +20,14 @@ use Rattle.submission.specs.Record.{guess, nameAt, term, recordAt}
 use Rattle.term.specs.Kind.{shapeOf}
 use Rattle.program.specs.Program.{programLength}
 use Rattle.submission.specs.Fresh.{isKnownPart, isFresh}
-use Rattle.submission.proofs.FreshLaws.{says-fresh}
+use Rattle.submission.proofs.theory.FreshLaws.{says-fresh}
 use Rattle.machine.specs.Run.{guessed, runAnswer}
 use Rattle.conditions.specs.Page.{pageChecked}
 use Rattle.conditions.specs.Wrong.{WrongGuess}
-use Rattle.checker.proofs.Examples.{Example, m1, m3, m8, got, want, example-right}
-use Rattle.conditions.proofs.Acceptance.{accepted-iff}
+use Rattle.checker.proofs.theory.Examples.{Example, m1, m3, m8, got, want, example-right}
+use Rattle.conditions.proofs.theory.Acceptance.{accepted-iff}
 use Rattle.conditions.specs.Demand.{KeptPromise}
-use Rattle.conditions.proofs.Promise.{demand-3}
+use Rattle.conditions.proofs.theory.Promise.{demand-3}
 
 -- ---- the hypotheses as tests
 areBytes : List ℕ → Bool

@@ -22,8 +22,8 @@ use Rattle.derivation.specs.declared.Registers.{Registers}
 use Rattle.derivation.specs.Register.{written, every, isKnown}
 use Rattle.derivation.specs.Step.{secondAt, unfounded}
 use Rattle.derivation.specs.Code.{IsStep, Registered}
-use Rattle.derivation.proofs.Founded.{steps-pass}
-use Rattle.derivation.proofs.Premise.{first-known, second-known, known-held, known-stays}
+use Rattle.derivation.proofs.theory.StepMeaning.{steps-pass}
+use Rattle.derivation.proofs.theory.KnownPremises.{first-known, second-known, known-held, known-stays}
 use Rattle.program.specs.declared.Instruction.{Instruction as InstructionRead}
 use Rattle.program.specs.declared.Test.{Test as TestRead}
 use Rattle.program.specs.declared.Program.{Program as ProgramRead}
@@ -32,8 +32,8 @@ use Rattle.program.specs.Code.{instructionIn, testIn, programIn}
 use Rattle.program.proofs.theory.Value.{Holds, holds-more, holds-all, held-count}
 use Rattle.conditions.specs.Page.{orZero, lowest, resultRegister, named, instruction, claimTest, program}
 use Rattle.conditions.specs.Code.{Acceptable, Held}
-use Rattle.conditions.proofs.Standing.{second-is, founded-claimed, acceptable-founded, acceptable-limited, second-way}
-use Rattle.conditions.proofs.Program.{program-steps}
+use Rattle.conditions.proofs.PassedFacts.{second-is, founded-claimed, acceptable-founded, acceptable-limited, second-way}
+use Rattle.conditions.proofs.theory.ProgramRun.{program-steps}
 
 -- ---- "A premise is taken from its lowest register": what the registers' struct says of a known term
 module _ {s : List ℕ} {g : Registers} (h : Acceptable s) (w : Registered s (written s (steps s)) g) where

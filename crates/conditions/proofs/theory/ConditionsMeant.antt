@@ -15,11 +15,11 @@ use Rattle.term.specs.Step.{Deducible, Undoes}
 use Rattle.term.proofs.Rule.{head-inj, says-takes-apart}
 use Rattle.submission.specs.Record.{terms, steps, ruleAt, pAt, conclusionAt, entryAt, guess, verifying, wayAt, companion, term, InKnowledge}
 use Rattle.submission.specs.Way.{Way, another-step, at-start, inverse-key, wayOf, row}
-use Rattle.submission.proofs.Listed.{Claimed, InRange}
+use Rattle.submission.proofs.theory.ListedTerms.{Claimed, InRange}
 use Rattle.derivation.specs.Register.{isKnown}
 use Rattle.derivation.specs.Step.{secondAt, unfounded}
-use Rattle.derivation.proofs.Register.{KnownNumber, says-known}
-use Rattle.derivation.proofs.Founded.{Sound, founded-iff}
+use Rattle.derivation.proofs.theory.RegisterTerms.{KnownNumber, says-known}
+use Rattle.derivation.proofs.theory.StepMeaning.{Sound, founded-iff}
 use Rattle.deduction.specs.Deduce.{entryMarks, isDeducible}
 use Rattle.deduction.proofs.theory.Exactness.{deducible-iff}
 use Rattle.conditions.specs.Check.{reachable, isPremise, samePremises, hasSecondWay, undoesStep, companionUndoes, undone}

@@ -31,7 +31,7 @@ use Rattle.conditions.specs.Check.{check8, check9, check10, check11, che
 use Rattle.conditions.specs.Page.{program}
 use Rattle.conditions.specs.Calls.{verdictAnswer, Checked}
 use Rattle.conditions.specs.Code.{Founded, Acceptable}
-use Rattle.conditions.proofs.Program.{program-bytes}
+use Rattle.conditions.proofs.theory.ProgramRun.{program-bytes}
 
 -- ---- check 11
 module _ (s page : List ℕ) {n k : ℕ} (e : n ≡ steps s) (f : k ≡ programLength n) where

@@ -23,11 +23,11 @@ use Rattle.term.proofs.Guess.{UndoesSome, OutOfReach, FreshGuess, MayHold, clea
 use Rattle.base.specs.Bytes.{Bytes}
 use Rattle.submission.specs.Record.{entries, steps, entryAt, ruleAt, pAt, qAt, conclusionAt, guess, verifying, wayAt, companion, nameAt, term, areInverse, InKnowledge}
 use Rattle.submission.specs.Way.{Way, another-step, at-start, inverse-key, wayOf}
-use Rattle.submission.proofs.Listed.{Claimed, claimed}
+use Rattle.submission.proofs.theory.ListedTerms.{Claimed, claimed}
 use Rattle.derivation.specs.Register.{written, isKnown}
 use Rattle.derivation.specs.Step.{secondAt}
-use Rattle.derivation.proofs.Register.{says-known, result-register}
-use Rattle.derivation.proofs.Founded.{Sound, sound, founded-iff}
+use Rattle.derivation.proofs.theory.RegisterTerms.{says-known, result-register}
+use Rattle.derivation.proofs.theory.StepMeaning.{Sound, sound, founded-iff}
 use Rattle.program.specs.Tests.{relationOf, registersOf, rowOf}
 use Rattle.program.specs.Program.{bytesOf, badInstruction, badTest, badProgram}
 use Rattle.machine.specs.Run.{atomKind, guessed, holds as relates, signals, signal}
@@ -37,8 +37,8 @@ use Rattle.conditions.specs.Check.{hasSecondWay}
 use Rattle.conditions.specs.Condition.{WellFormed, FiveConditions, Differs, SecondWay, UndoesNone, rule, first, second, concluded}
 use Rattle.conditions.specs.Page.{lowest, instruction, program, testFor, claimTest}
 use Rattle.conditions.specs.Wrong.{WrongGuess}
-use Rattle.conditions.proofs.AcceptanceConditions.{founded-terms, second-way-iff}
-use Rattle.conditions.proofs.Program.{lowest-known, program-steps, value, result, same-operand, holds, holds-lowest}
+use Rattle.conditions.proofs.theory.ConditionsMeant.{founded-terms, second-way-iff}
+use Rattle.conditions.proofs.theory.ProgramRun.{lowest-known, program-steps, value, result, same-operand, holds, holds-lowest}
 
 -- a step of the derivation
 abbrev InDerivation : List ℕ → Head → Term → Term → Term → Type 0

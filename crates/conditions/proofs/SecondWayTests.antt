@@ -26,7 +26,7 @@ use Rattle.derivation.specs.Step.{secondAt}
 use Rattle.derivation.specs.Code.{IsStep, Registered, orNone}
 use Rattle.conditions.specs.Check.{isPremise, samePremises, hasSecondWay}
 use Rattle.conditions.specs.Code.{otherWay}
-use Rattle.conditions.proofs.Standing.{second-is}
+use Rattle.conditions.proofs.PassedFacts.{second-is}
 
 -- ---- the premises of step i, whose record is a
 module _ {s : List ℕ} {i : ℕ} {a : Step} (h : IsStep s i a) where

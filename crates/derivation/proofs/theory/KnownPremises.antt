@@ -9,13 +9,13 @@ use lib.ListN.{getD}
 use borrow.Author.Tests.{not-false}
 use Rattle.base.proofs.Says.{says-and, says-true}
 use Rattle.base.proofs.First.{first-some}
-use Rattle.base.proofs.FirstMore.{first-kept, any-first, any-more}
+use Rattle.base.proofs.FirstGrowing.{first-kept, any-first, any-more}
 use Rattle.submission.specs.Record.{steps, pAt}
 use Rattle.derivation.specs.declared.Registers.{Registers}
 use Rattle.derivation.specs.Register.{written, lowestAmong, knownAmong, isKnown}
 use Rattle.derivation.specs.Step.{secondAt, unfounded}
 use Rattle.derivation.specs.Code.{RegisteredAmong}
-use Rattle.derivation.proofs.Held.{held-lowest}
+use Rattle.derivation.proofs.RegistersHeld.{held-lowest}
 
 -- a founded step's premises are known before it
 module _ (s : List ℕ) (i : ℕ) (f : unfounded s i ≡ false) where

@@ -19,8 +19,8 @@ use Rattle.program.specs.Tests.{relationOf, relationWord}
 use Rattle.program.specs.Program.{Instruction, Test, instructionAt, testAt}
 use Rattle.text.specs.Text.{digits, registerText, secondText, stepLine, stepLines, testLine, refusedText, answerText}
 use Rattle.text.specs.Puts.{Puts}
-use Rattle.text.proofs.Puts.{puts-whole}
-use Rattle.text.proofs.Decimal.{digits-one, digits-more}
+use Rattle.text.proofs.theory.PutLaws.{puts-whole}
+use Rattle.text.proofs.theory.Decimal.{digits-one, digits-more}
 
 -- a number below ten to the k has at most k digits
 digits-length : (k f n : ℕ) → n < 10 ^ suc k → length (digits f n) ≤ suc k

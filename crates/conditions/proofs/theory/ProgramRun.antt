@@ -19,7 +19,7 @@ use Rattle.term.specs.Rule.{headOf, hasOne}
 use Rattle.submission.specs.Record.{entries, steps, entryAt, ruleAt, pAt, qAt, guess, term}
 use Rattle.derivation.specs.Register.{registerTerm, written, holdsTerm, every, isKnown}
 use Rattle.derivation.specs.Step.{secondAt}
-use Rattle.derivation.proofs.Register.{entry-register, guess-register, result-register}
+use Rattle.derivation.proofs.theory.RegisterTerms.{entry-register, guess-register, result-register}
 use Rattle.program.specs.Program.{bytesOf, programLength, instructionAt, operand}
 use Rattle.machine.specs.Run.{guessed, executed, registers}
 use Rattle.program.proofs.theory.Bytes.{program-length, instruction-back}

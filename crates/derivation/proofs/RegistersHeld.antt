@@ -12,8 +12,8 @@ use lib.Seq.{getD-set-same, getD-set-other}
 use borrow.Author.Tests.{eq-eqb, ne-eqb, eqb-true, eqb-false}
 use Rattle.base.specs.First.{firstFrom, first, isSome, any}
 use Rattle.base.proofs.First.{first-some}
-use Rattle.base.proofs.Bools.{and-both, and-right}
-use Rattle.base.proofs.FirstMore.{first-kept, first-next, first-same}
+use Rattle.base.proofs.BoolLaws.{and-both, and-right}
+use Rattle.base.proofs.FirstGrowing.{first-kept, first-next, first-same}
 use Rattle.base.proofs.Order.{lt-or-ge}
 use Rattle.submission.specs.declared.ClaimBytes.{ClaimBytes}
 use Rattle.submission.specs.Contents.{Limited}
@@ -23,7 +23,7 @@ use Rattle.derivation.specs.declared.Step.{Step}
 use Rattle.derivation.specs.declared.Registers.{Registers}
 use Rattle.derivation.specs.Register.{registerTerm, written, holdsTerm, lowestAmong, every}
 use Rattle.derivation.specs.Code.{IsStep, orNone, RegisteredAmong, Registered, Unused, Added}
-use Rattle.derivation.proofs.Register.{entry-register, guess-register, result-register}
+use Rattle.derivation.proofs.theory.RegisterTerms.{entry-register, guess-register, result-register}
 
 -- ---- one call of `with`
 pub added-kept : {b : Registers} {i t : ℕ} → i ≡ t → (getD (b .first) i 0 ≡ 255 → ⊥) → Added b t (record { first = b .first; used = b .used + 1 })

@@ -23,7 +23,7 @@ use Rattle.submission.specs.Record.{terms, entries, steps, kindAt, xAt, 
 use Rattle.submission.specs.Way.{Way, another-step, at-start, inverse-key, wayOf, Range, step-number, term-number, zero-only, row, inRange, claimFits}
 use Rattle.submission.specs.Check.{badTerm, check3, badKnowledge, check4, goodClaim, check5, checks1to4, checks1to5}
 use Rattle.base.proofs.AnswerLaws.{if-passes, at-passes, then-passes}
-use Rattle.submission.proofs.GoodRecord.{HasSecond, Shaped, secondPart, second-below, Good, good, name-bytes, same-record}
+use Rattle.submission.proofs.theory.GoodRecord.{HasSecond, Shaped, secondPart, second-below, Good, good, name-bytes, same-record}
 
 -- the kinds of keys, and those of a key and its inverse
 abbrev Key : Kind → Type 0

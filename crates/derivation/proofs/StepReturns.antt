@@ -19,7 +19,7 @@ use Rattle.derivation.specs.declared.Registers.{Registers}
 use Rattle.derivation.specs.Register.{written}
 use Rattle.derivation.specs.Step.{secondAt, badStep, unfounded, checkSteps}
 use Rattle.derivation.specs.Code.{IsStep, Registered, checkStep, StepsChecked}
-use Rattle.derivation.proofs.Held.{held-any}
+use Rattle.derivation.proofs.RegistersHeld.{held-any}
 
 -- ---- check 7 of a step
 module _ {s : List ℕ} {i : ℕ} {r : Registers} {st : Step} (h : Registered s (written s i) r) (x : IsStep s i st) (b : r .used < 256) (l : st .p < 256)

@@ -14,11 +14,11 @@ use Rattle.submission.specs.Check.{checks1to5}
 use Rattle.submission.specs.Code.{IsClaim}
 use Rattle.base.proofs.AnswerLaws.{then-passes, if-passes}
 use Rattle.submission.proofs.PassedChecks.{limited, body-passes}
-use Rattle.submission.proofs.Listed.{Claimed, claimed}
+use Rattle.submission.proofs.theory.ListedTerms.{Claimed, claimed}
 use Rattle.derivation.specs.declared.Step.{Step}
 use Rattle.derivation.specs.Step.{secondAt, checkSteps}
 use Rattle.derivation.specs.Code.{IsStep}
-use Rattle.derivation.proofs.Founded.{Sound, sound, steps-pass}
+use Rattle.derivation.proofs.theory.StepMeaning.{Sound, sound, steps-pass}
 use Rattle.deduction.specs.Deduce.{entryMarks, isDeducible}
 use Rattle.deduction.specs.Code.{TableRead}
 use Rattle.conditions.specs.Check.{reachable, hasSecondWay, check8, check9, check10, checks1to10}

@@ -24,9 +24,9 @@ use Rattle.conditions.specs.Condition.{WellFormed, FiveConditions}
 use Rattle.conditions.specs.Page.{program, pageChecked}
 use Rattle.conditions.specs.Wrong.{WrongGuess}
 use Rattle.conditions.specs.Demand.{KeptPromise}
-use Rattle.conditions.proofs.Acceptance.{accepted-iff}
-use Rattle.conditions.proofs.Promise.{demand-3}
-use Rattle.conditions.proofs.Refusal.{check-refusals}
+use Rattle.conditions.proofs.theory.Acceptance.{accepted-iff}
+use Rattle.conditions.proofs.theory.Promise.{demand-3}
+use Rattle.conditions.proofs.theory.Refusal.{check-refusals}
 
 -- a verdict and an answer tell what they stand for
 same-verdict : (v : Verdict) (n : ℕ) → verdictAnswer v ≡ done n → v ≡ Accepted n

@@ -12,14 +12,14 @@ use Rattle.submission.specs.Record.{steps, wayAt}
 use Rattle.submission.specs.Way.{wayOf}
 use Rattle.submission.specs.Check.{checks1to5}
 use Rattle.base.proofs.AnswerLaws.{if-passes, at-passes, then-passes, answered-done}
-use Rattle.submission.proofs.Listed.{Claimed, claimed}
+use Rattle.submission.proofs.theory.ListedTerms.{Claimed, claimed}
 use Rattle.derivation.specs.Step.{unfounded, checkSteps}
-use Rattle.derivation.proofs.Founded.{Sound, sound, steps-pass}
+use Rattle.derivation.proofs.theory.StepMeaning.{Sound, sound, steps-pass}
 use Rattle.program.specs.Program.{programLength}
 use Rattle.conditions.specs.Check.{reachable, check8, hasSecondWay, check9, undone, check10, check11, checks1to10, checkAnswer}
 use Rattle.conditions.specs.Condition.{WellFormed, FiveConditions}
 use Rattle.conditions.specs.Demand.{Demand2}
-use Rattle.conditions.proofs.AcceptanceConditions.{founded-terms, reachable-iff, second-way-iff, undone-iff}
+use Rattle.conditions.proofs.theory.ConditionsMeant.{founded-terms, reachable-iff, second-way-iff, undone-iff}
 
 -- what the checks after the fifth say of term numbers, where all pass
 record Clear (s : List ℕ) : Type 0 where

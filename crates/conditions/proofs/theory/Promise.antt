@@ -14,9 +14,9 @@ use Rattle.conditions.specs.Check.{checkAnswer}
 use Rattle.conditions.specs.Condition.{WellFormed, FiveConditions}
 use Rattle.conditions.specs.Page.{program, pageChecked}
 use Rattle.conditions.specs.Demand.{Demand3, EveryGoodAccepted}
-use Rattle.conditions.proofs.Acceptance.{accepted-iff}
-use Rattle.conditions.proofs.Program.{program-bytes}
-use Rattle.conditions.proofs.Signal.{program-good, right-signal, wrong-signal}
+use Rattle.conditions.proofs.theory.Acceptance.{accepted-iff}
+use Rattle.conditions.proofs.theory.ProgramRun.{program-bytes}
+use Rattle.conditions.proofs.theory.Signal.{program-good, right-signal, wrong-signal}
 
 -- the page of an acceptance
 page-accepted : (s page : List ℕ) (n : ℕ) → checkAnswer s (length page) ≡ done n →

@@ -12,7 +12,7 @@ use lib.ListN.{length, take, length-take, List·getD-eq-default}
 use lib.Seq.{getD-take}
 use borrow.Author.Tests.{ne-eqb}
 use Rattle.base.specs.First.{any}
-use Rattle.base.proofs.Bools.{or-right}
+use Rattle.base.proofs.BoolLaws.{or-right}
 use Rattle.base.specs.Answer.{refused}
 use Rattle.base.specs.Bytes.{Bytes}
 use Rattle.submission.specs.Contents.{start, wrongLetter, wrongStart, badContents}

@@ -18,7 +18,7 @@ use Rattle.program.specs.declared.Test.{Test as TestRead}
 use Rattle.program.specs.Code.{relationIn, instructionIn, testIn}
 use Rattle.text.specs.Text.{decimal, space, newline, registerText, secondText, stepLine, stepLines, signalWord, acceptedWord, refusedWord, testLine, refusedText, answerText}
 use Rattle.text.specs.Puts.{Puts}
-use Rattle.text.proofs.Puts.{puts-none, puts-then}
+use Rattle.text.proofs.theory.PutLaws.{puts-none, puts-then}
 
 pub register-put : {a b c : List ℕ} {i j k : ℕ} (r : ℕ) → Puts a i (0x72 ∷ []) b j → Puts b j (decimal r) c k → Puts a i (registerText r) c k
 register-put r p q = puts-then p q
