@@ -21,7 +21,7 @@ use Rattle.base.specs.Code.{checkOf}
 use Rattle.base.proofs.AnswerLaws.{if-passes}
 use Rattle.base.proofs.StageLaws.{bytes, stage-passes}
 use Rattle.submission.proofs.PassedChecks.{body-passes, limited}
-use Rattle.derivation.specs.declared.Checked.{Checked as StepsRun}
+use Rattle.derivation.specs.declared.StepsAnswer.{StepsAnswer}
 use Rattle.derivation.specs.Register.{written}
 use Rattle.derivation.specs.Code.{Registered, StepsChecked}
 use Rattle.program.specs.Program.{bytesOf, programLength}
@@ -86,7 +86,7 @@ module _ (s : List ℕ) {r : Reading} (reading : ReadingIs s (checks1to5 s) r) w
     pub reading-claim : IsClaim s k
     reading-claim = reading .claim k read
 
-    module _ {z : StepsRun} (each : StepsChecked s z) where
+    module _ {z : StepsAnswer} (each : StepsChecked s z) where
       pub steps-out : (page : List ℕ) (n : ℕ) {a b : ℕ} (v : Verdict) → z .stage ≡ stage.Refused a b → verdictAnswer v ≡ answered (checkOf (z .stage)) (done n) → Checked s page v page
       unfolding all checks1to10
       steps-out page n {a} {b} v q f =

@@ -18,7 +18,7 @@ use Rattle.submission.proofs.theory.ListedTerms.{Claimed, claimed}
 use Rattle.derivation.specs.declared.Step.{Step}
 use Rattle.derivation.specs.Step.{secondAt, checkSteps}
 use Rattle.derivation.specs.Code.{IsStep}
-use Rattle.derivation.proofs.theory.StepMeaning.{Sound, sound, steps-pass}
+use Rattle.derivation.proofs.theory.StepMeaning.{SoundStep, sound, steps-pass}
 use Rattle.deduction.specs.Deduce.{entryMarks, isDeducible}
 use Rattle.deduction.specs.Code.{TableRead}
 use Rattle.conditions.specs.Check.{reachable, hasSecondWay, check8, check9, check10, checks1to10}
@@ -42,7 +42,7 @@ module _ {s : List ℕ} (h : Founded s) where
 
   -- the premises of the verifying step
   module _ {c : Claim} {a : Step} (k : IsClaim s c) (x : IsStep s (c .step) a) where
-    verifying-sound : Sound s (c .step)
+    verifying-sound : SoundStep s (c .step)
     verifying-sound =
         let l : c .step < steps s = rw (k .step) (founded-claimed .verifying-below) in
         sound (founded-claimed .read) (c .step) (steps-pass s .0 (h .founded) (c .step) l .0)

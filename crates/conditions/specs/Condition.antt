@@ -23,11 +23,11 @@ pub record WellFormed (s : List ℕ) : Type 0 where
 abbrev pub rule : List ℕ → ℕ → Head
 rule s i = headOf (ruleAt s i)
 
-abbrev pub first : List ℕ → ℕ → Term
-first s i = term s (pAt s i)
+abbrev pub firstPremise : List ℕ → ℕ → Term
+firstPremise s i = term s (pAt s i)
 
-abbrev pub second : List ℕ → ℕ → Term
-second s i = term s (secondAt s i)
+abbrev pub secondPremise : List ℕ → ℕ → Term
+secondPremise s i = term s (secondAt s i)
 
 abbrev pub concluded : List ℕ → ℕ → Term
 concluded s i = term s (conclusionAt s i)
@@ -38,7 +38,7 @@ Known s i t = InKnowledge s t ⊎ ((t ≡ term s (guess s)) ⊎ ((j : ℕ) × (j
 
 -- x is in the premise set of step i; S is that of the verifying step
 abbrev pub Premise : List ℕ → ℕ → Term → Type 0
-Premise s i x = (x ≡ first s i) ⊎ (x ≡ second s i)
+Premise s i x = (x ≡ firstPremise s i) ⊎ (x ≡ secondPremise s i)
 
 -- "with another rule or another premise set"
 abbrev pub Differs : List ℕ → ℕ → ℕ → Type 0
@@ -58,11 +58,11 @@ SecondWay s (some inverse-key) =
 
 -- "No step anywhere in the derivation is undone by" step j
 abbrev pub UndoesNone : List ℕ → ℕ → Type 0
-UndoesNone s j = (i : ℕ) → i < steps s → Undoes (rule s j) (first s j) (concluded s j) (rule s i) (first s i) (concluded s i) → ⊥
+UndoesNone s j = (i : ℕ) → i < steps s → Undoes (rule s j) (firstPremise s j) (concluded s j) (rule s i) (firstPremise s i) (concluded s i) → ⊥
 
 pub record FiveConditions (s : List ℕ) : Type 0 where
   -- 1. "Every step is founded."
-  pub founded : (i : ℕ) → i < steps s → Known s i (first s i) × Known s i (second s i)
+  pub founded : (i : ℕ) → i < steps s → Known s i (firstPremise s i) × Known s i (secondPremise s i)
   -- 2. "The verifying step is one of the derivation."
   pub present : verifying s < steps s
   -- 3. "Some member of S is not deducible from the knowledge without the guess."

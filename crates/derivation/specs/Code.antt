@@ -12,7 +12,7 @@ use Rattle.base.specs.Code.{checkOf}
 use Rattle.base.specs.declared.Stage.the-variants.{Passed}
 use Rattle.derivation.specs.declared.Step.{Step}
 use Rattle.derivation.specs.declared.Registers.{Registers}
-use Rattle.derivation.specs.declared.Checked.{Checked}
+use Rattle.derivation.specs.declared.StepsAnswer.{StepsAnswer}
 use Rattle.derivation.specs.Register.{written, lowestAmong, every}
 use Rattle.derivation.specs.Step.{badStep, unfounded, checkSteps}
 
@@ -51,6 +51,6 @@ abbrev pub checkStep : List ℕ → ℕ → Check
 checkStep s i = andThen (failsIf (badStep s i) 6 i) (failsIf (unfounded s i) 7 i)
 
 -- r is the answer of checks 6 and 7, with the registers after the last step where they pass
-pub record StepsChecked (s : List ℕ) (r : Checked) : Type 0 where
+pub record StepsChecked (s : List ℕ) (r : StepsAnswer) : Type 0 where
   pub answer : checkOf (r .stage) ≡ checkSteps s
   pub registers : r .stage ≡ Passed → Registered s (written s (steps s)) (r .registers)

@@ -215,13 +215,13 @@ fn check_step(s: &[u8], before: Registers, i: u8) -> Stage
 }
 
 // What checks 6 and 7 answer, with the registers after the last step that passed.
-pub struct Checked {
+pub struct StepsAnswer {
     pub registers: Registers,
     pub stage: Stage,
 }
 
 // Checks 6 and 7, tried together, step by step.
-pub fn check_steps(s: &[u8]) -> Checked
+pub fn check_steps(s: &[u8]) -> StepsAnswer
     requires { ⌜ Limited (now s) ⌝ }
     ensures { λ r. ⌜ StepsChecked (now (s .entry)) r ⌝ }
 {
@@ -230,7 +230,7 @@ pub fn check_steps(s: &[u8]) -> Checked
     for i in 0..n {
         let stage = check_step(s, r, i);
         let Stage::Passed = stage else {
-            return Checked {
+            return StepsAnswer {
                 registers: r,
                 stage,
             };
@@ -238,7 +238,7 @@ pub fn check_steps(s: &[u8]) -> Checked
         let step = step_at(s, i);
         r = r.with(step.conclusion);
     }
-    Checked {
+    StepsAnswer {
         registers: r,
         stage: Stage::Passed,
     }

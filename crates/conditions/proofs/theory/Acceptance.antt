@@ -14,7 +14,7 @@ use Rattle.submission.specs.Check.{checks1to5}
 use Rattle.base.proofs.AnswerLaws.{if-passes, at-passes, then-passes, answered-done}
 use Rattle.submission.proofs.theory.ListedTerms.{Claimed, claimed}
 use Rattle.derivation.specs.Step.{unfounded, checkSteps}
-use Rattle.derivation.proofs.theory.StepMeaning.{Sound, sound, steps-pass}
+use Rattle.derivation.proofs.theory.StepMeaning.{SoundStep, sound, steps-pass}
 use Rattle.program.specs.Program.{programLength}
 use Rattle.conditions.specs.Check.{reachable, check8, hasSecondWay, check9, undone, check10, check11, checks1to10, checkAnswer}
 use Rattle.conditions.specs.Condition.{WellFormed, FiveConditions}
@@ -67,7 +67,7 @@ all-pass s room n = (down, up)
 clear-iff : (s : List ℕ) → Bytes s → WellFormed s → Clear s ↔ FiveConditions s
 clear-iff s b w =
     let c : Claimed s = claimed s b (w .read) in
-    let each : (i : ℕ) → i < steps s → Sound s i = λ i l. sound (c .read) i (w .shaped i l) in (
+    let each : (i : ℕ) → i < steps s → SoundStep s i = λ i l. sound (c .read) i (w .shaped i l) in (
       λ z. record {
         founded = λ i l. founded-terms c each i l .0 (z .founded i l);
         present = c .verifying-below;

@@ -19,11 +19,11 @@ use Rattle.submission.proofs.theory.ListedTerms.{Claimed, InRange}
 use Rattle.derivation.specs.Register.{isKnown}
 use Rattle.derivation.specs.Step.{secondAt, unfounded}
 use Rattle.derivation.proofs.theory.RegisterTerms.{KnownNumber, says-known}
-use Rattle.derivation.proofs.theory.StepMeaning.{Sound, founded-iff}
+use Rattle.derivation.proofs.theory.StepMeaning.{SoundStep, founded-iff}
 use Rattle.deduction.specs.Deduce.{entryMarks, isDeducible}
 use Rattle.deduction.proofs.theory.Exactness.{deducible-iff}
 use Rattle.conditions.specs.Check.{reachable, isPremise, samePremises, hasSecondWay, undoesStep, companionUndoes, undone}
-use Rattle.conditions.specs.Condition.{rule, first, second, concluded, Known, Premise, Differs, SecondWay, UndoesNone}
+use Rattle.conditions.specs.Condition.{rule, firstPremise, secondPremise, concluded, Known, Premise, Differs, SecondWay, UndoesNone}
 
 -- before step 0 the knowledge and the guess are known
 known-at-start : (s : List ℕ) (t : Term) → Known s 0 t ↔ (InKnowledge s t ⊎ (t ≡ term s (guess s)))
@@ -34,7 +34,7 @@ known-at-start s t = (up, ⊎-elim (λ k. inl k) (λ e. inr (inl e)))
     up (inr (inl e)) = inr e
     up (inr (inr (j, l, e))) = absurd (omega arith)
 
-module _ {s : List ℕ} (c : Claimed s) (sound : (i : ℕ) → i < steps s → Sound s i) where
+module _ {s : List ℕ} (c : Claimed s) (sound : (i : ℕ) → i < steps s → SoundStep s i) where
   open Claimed c using (read)
 
   -- numbers and terms
@@ -61,7 +61,7 @@ module _ {s : List ℕ} (c : Claimed s) (sound : (i : ℕ) → i < steps s → S
   pub says-known-term : (i n : ℕ) → i ≤ steps s → n < terms s → Says (isKnown s i n) (Known s i (term s n))
   says-known-term i n l b = Iff·trans (says-known s i n) (known-iff i n l b)
 
-  pub founded-terms : (i : ℕ) → i < steps s → (unfounded s i ≡ false) ↔ (Known s i (first s i) × Known s i (second s i))
+  pub founded-terms : (i : ℕ) → i < steps s → (unfounded s i ≡ false) ↔ (Known s i (firstPremise s i) × Known s i (secondPremise s i))
   founded-terms i l =
       Iff·trans (founded-iff s i) (Iff·and (known-iff i (pAt s i) (omega arith) (sound i l .p-below)) (known-iff i (secondAt s i) (omega arith) (sound i l .second-below)))
 
@@ -76,7 +76,7 @@ module _ {s : List ℕ} (c : Claimed s) (sound : (i : ℕ) → i < steps s → S
       let p = hidden-iff (pAt s (verifying s)) (v .p-below) in
       let q = hidden-iff (secondAt s (verifying s)) (v .second-below) in
       Iff·trans (and-false _ _) (
-        ⊎-elim (λ e. (first s (verifying s), inl refl, p .0 e)) (λ e. (second s (verifying s), inr refl, q .0 e)),
+        ⊎-elim (λ e. (firstPremise s (verifying s), inl refl, p .0 e)) (λ e. (secondPremise s (verifying s), inr refl, q .0 e)),
         λ (x, m, f). ⊎-elim (λ e. inl (p .1 (λ d. f (rw e d)))) (λ e. inr (q .1 (λ d. f (rw e d)))) m,
       )
 
@@ -90,7 +90,7 @@ module _ {s : List ℕ} (c : Claimed s) (sound : (i : ℕ) → i < steps s → S
       let w = says-and _ _ (says-premise j (pAt s i) m (sound i l .p-below)) (says-premise j (secondAt s i) m (sound i l .second-below)) in
       Iff·trans w (
         λ (p, q) x. ⊎-elim (λ e. subst (Premise s j) (sym e) p) (λ e. subst (Premise s j) (sym e) q),
-        λ f. (f (first s i) (inl refl), f (second s i) (inr refl)),
+        λ f. (f (firstPremise s i) (inl refl), f (secondPremise s i) (inr refl)),
       )
 
   says-same-premises : (i j : ℕ) → i < steps s → j < steps s → Says (samePremises s i j) ((x : Term) → Premise s i x ↔ Premise s j x)
@@ -121,7 +121,7 @@ module _ {s : List ℕ} (c : Claimed s) (sound : (i : ℕ) → i < steps s → S
   second-way-iff = rw (c .has-way) (says-way (c .way) (c .in-range))
 
   -- ---- condition 5
-  says-undoes : (j i : ℕ) → j < steps s → i < steps s → Says (undoesStep s j i) (Undoes (rule s j) (first s j) (concluded s j) (rule s i) (first s i) (concluded s i))
+  says-undoes : (j i : ℕ) → j < steps s → i < steps s → Says (undoesStep s j i) (Undoes (rule s j) (firstPremise s j) (concluded s j) (rule s i) (firstPremise s i) (concluded s i))
   unfolding undoesStep
   says-undoes j i m l =
       let x = sound j m in

@@ -24,7 +24,7 @@ use Rattle.program.specs.Program.{bytesOf, programLength, instructionAt, operan
 use Rattle.machine.specs.Run.{guessed, executed, registers}
 use Rattle.program.proofs.theory.Bytes.{program-length, instruction-back}
 use Rattle.machine.proofs.theory.RunRegisters.{register-kept, register-written, register-entry, register-guess}
-use Rattle.conditions.specs.Condition.{rule, first as firstTerm, second, concluded}
+use Rattle.conditions.specs.Condition.{rule, firstPremise, secondPremise, concluded}
 use Rattle.conditions.specs.Page.{lowest, instruction, program}
 
 module _ (s : List ℕ) where
@@ -88,7 +88,7 @@ module _ (s : List ℕ) where
     module _ (R : Term → Term → Type 0)
         (at-entry : (r : ℕ) → r < entries s → R (term s (entryAt s r)) (term s (entryAt s r))) (at-guess : R (term s (guess s)) (guessed s name))
         (founded : (i : ℕ) → i < steps s → (isKnown s i (pAt s i) ≡ true) × (isKnown s i (secondAt s i) ≡ true))
-        (next : (i : ℕ) → i < steps s → (v u : Term) → R (firstTerm s i) v → R (second s i) u → (single (rule s i) ≡ true → v ≡ u) → R (concluded s i) (op (rule s i) v u)) where
+        (next : (i : ℕ) → i < steps s → (v u : Term) → R (firstPremise s i) v → R (secondPremise s i) u → (single (rule s i) ≡ true → v ≡ u) → R (concluded s i) (op (rule s i) v u)) where
       abbrev Holds : ℕ → Type 0
       Holds i = (r : ℕ) → r < written s i → R (term s (registerTerm s r)) (value i r)
 

@@ -27,14 +27,14 @@ use Rattle.submission.proofs.theory.ListedTerms.{Claimed, claimed}
 use Rattle.derivation.specs.Register.{written, isKnown}
 use Rattle.derivation.specs.Step.{secondAt}
 use Rattle.derivation.proofs.theory.RegisterTerms.{says-known, result-register}
-use Rattle.derivation.proofs.theory.StepMeaning.{Sound, sound, founded-iff}
+use Rattle.derivation.proofs.theory.StepMeaning.{SoundStep, sound, founded-iff}
 use Rattle.program.specs.Tests.{relationOf, registersOf, rowOf}
 use Rattle.program.specs.Program.{bytesOf, badInstruction, badTest, badProgram}
 use Rattle.machine.specs.Run.{atomKind, guessed, holds as relates, signals, signal}
 use Rattle.program.proofs.theory.Bytes.{byte-count, test-back, program-passes}
 use Rattle.machine.proofs.theory.RunRegisters.{register-entry, register-guess, says-equal, says-inverse}
 use Rattle.conditions.specs.Check.{hasSecondWay}
-use Rattle.conditions.specs.Condition.{WellFormed, FiveConditions, Differs, SecondWay, UndoesNone, rule, first, second, concluded}
+use Rattle.conditions.specs.Condition.{WellFormed, FiveConditions, Differs, SecondWay, UndoesNone, rule, firstPremise, secondPremise, concluded}
 use Rattle.conditions.specs.Page.{lowest, instruction, program, testFor, claimTest}
 use Rattle.conditions.specs.Wrong.{WrongGuess}
 use Rattle.conditions.proofs.theory.ConditionsMeant.{founded-terms, second-way-iff}
@@ -42,10 +42,10 @@ use Rattle.conditions.proofs.theory.ProgramRun.{lowest-known, program-s
 
 -- a step of the derivation
 abbrev InDerivation : List ℕ → Head → Term → Term → Term → Type 0
-InDerivation s h p q t = (i : ℕ) × (i < steps s) × (h ≡ rule s i) × (p ≡ first s i) × (q ≡ second s i) × (t ≡ concluded s i)
+InDerivation s h p q t = (i : ℕ) × (i < steps s) × (h ≡ rule s i) × (p ≡ firstPremise s i) × (q ≡ secondPremise s i) × (t ≡ concluded s i)
 
 -- steps with another rule or another premise set are not alike in rule and premises
-unlike : (s : List ℕ) (i j : ℕ) → Differs s i j → rule s i ≡ rule s j → first s i ≡ first s j → second s i ≡ second s j → ⊥
+unlike : (s : List ℕ) (i j : ℕ) → Differs s i j → rule s i ≡ rule s j → firstPremise s i ≡ firstPremise s j → secondPremise s i ≡ secondPremise s j → ⊥
 unlike s i j (inl f) a b d = f a
 unlike s i j (inr f) a b d = f (λ x. (⊎-elim (λ e. inl (e ∙ b)) (λ e. inr (e ∙ d)), ⊎-elim (λ e. inl (e ∙ sym b)) (λ e. inr (e ∙ sym d))))
 
@@ -66,7 +66,7 @@ module _ (s : List ℕ) (bytes : Bytes s) (w : WellFormed s) (c : FiveConditions
   unfolding guessed
   guess-right = claim .guess-term ∙ ap (λ o. atom (atomKind o) (nameAt s (guess s))) (sym (claim .guess-shape))
 
-  shaped : (i : ℕ) → i < steps s → Sound s i
+  shaped : (i : ℕ) → i < steps s → SoundStep s i
   shaped i l = sound (claim .read) i (w .shaped i l)
 
   -- what is known, by term numbers: the premises of a step, way b's term and way c's inverse
@@ -114,8 +114,8 @@ module _ (s : List ℕ) (bytes : Bytes s) (w : WellFormed s) (c : FiveConditions
   abbrev right : ℕ
   right = nameAt s (guess s)
 
-  right-next : (i : ℕ) → i < steps s → (v u : Term) → v ≡ first s i → u ≡ second s i → (single (rule s i) ≡ true → v ≡ u) → op (rule s i) v u ≡ concluded s i
-  right-next i l v u e f o = ap₂ (op (rule s i)) e f ∙ step-op (rule s i) (first s i) (second s i) (concluded s i) (shaped i l .step) (claim .read .messages (pAt s i) (shaped i l .p-below))
+  right-next : (i : ℕ) → i < steps s → (v u : Term) → v ≡ firstPremise s i → u ≡ secondPremise s i → (single (rule s i) ≡ true → v ≡ u) → op (rule s i) v u ≡ concluded s i
+  right-next i l v u e f o = ap₂ (op (rule s i)) e f ∙ step-op (rule s i) (firstPremise s i) (secondPremise s i) (concluded s i) (shaped i l .step) (claim .read .messages (pAt s i) (shaped i l .p-below))
 
   right-result : (i : ℕ) → i < steps s → value s right (steps s) (written s i) ≡ concluded s i
   right-result i l =
@@ -141,10 +141,10 @@ module _ (s : List ℕ) (bytes : Bytes s) (w : WellFormed s) (c : FiveConditions
   right-signal = rw (signal-asks s right, asked-right (wayOf (wayAt s)) refl (c .secondWay))
 
   -- ---- a wrong guess
-  undoes-none : (j : ℕ) → UndoesNone s j → UndoesSome (InDerivation s) (rule s j) (first s j) (concluded s j) → ⊥
-  undoes-none j f (h, p, q, t, (i, l, a, b, d, e), u) = f i l (subst₃ (Undoes (rule s j) (first s j) (concluded s j)) a b e u)
+  undoes-none : (j : ℕ) → UndoesNone s j → UndoesSome (InDerivation s) (rule s j) (firstPremise s j) (concluded s j) → ⊥
+  undoes-none j f (h, p, q, t, (i, l, a, b, d, e), u) = f i l (subst₃ (Undoes (rule s j) (firstPremise s j) (concluded s j)) a b e u)
 
-  out-of-reach : OutOfReach (InKnowledge s) (first s (verifying s)) (second s (verifying s))
+  out-of-reach : OutOfReach (InKnowledge s) (firstPremise s (verifying s)) (secondPremise s (verifying s))
   out-of-reach =
       let (x, m, f) = c .hidden in
       let g : Reach (InKnowledge s) x → ⊥ = λ r. f (reach-iff (InKnowledge s) x .0 r) in
@@ -156,7 +156,7 @@ module _ (s : List ℕ) (bytes : Bytes s) (w : WellFormed s) (c : FiveConditions
 
     abbrev Ran : ℕ → Term → Type 0
     Ran i t =
-        Executed (InKnowledge s) (InDerivation s) (term s (guess s)) (guessed s name) (rule s i) (first s i) (second s i) t
+        Executed (InKnowledge s) (InDerivation s) (term s (guess s)) (guessed s name) (rule s i) (firstPremise s i) (secondPremise s i) t
         (value s name i (lowest s (pAt s i))) (value s name i (lowest s (secondAt s i)))
 
     fresh-guess : FreshGuess (InKnowledge s) (InDerivation s) (term s (guess s)) (guessed s name)
@@ -170,8 +170,8 @@ module _ (s : List ℕ) (bytes : Bytes s) (w : WellFormed s) (c : FiveConditions
           w-inverse-fresh = wrong .fresh .inverseApart;
         }
 
-    executed : (i : ℕ) → i < steps s → {v u : Term} → May (first s i) v → May (second s i) u → (single (rule s i) ≡ true → v ≡ u) →
-        Executed (InKnowledge s) (InDerivation s) (term s (guess s)) (guessed s name) (rule s i) (first s i) (second s i) (concluded s i) v u
+    executed : (i : ℕ) → i < steps s → {v u : Term} → May (firstPremise s i) v → May (secondPremise s i) u → (single (rule s i) ≡ true → v ≡ u) →
+        Executed (InKnowledge s) (InDerivation s) (term s (guess s)) (guessed s name) (rule s i) (firstPremise s i) (secondPremise s i) (concluded s i) v u
     executed i l x y o = record { step = (i, l, refl, refl, refl, refl); first = x; second = y; once = o }
 
     may-lowest : (i : ℕ) → i ≤ steps s → (t : ℕ) → isKnown s i t ≡ true → May (term s t) (value s name i (lowest s t))
@@ -201,7 +201,7 @@ module _ (s : List ℕ) (bytes : Bytes s) (w : WellFormed s) (c : FiveConditions
         another-step-differs (InKnowledge s) (InDerivation s) (term s (guess s)) (guessed s name) fresh-guess
         (ran (verifying s) (c .present)) out-of-reach (undoes-none (verifying s) (c .kept))
         (subst (Ran (companion s)) f (ran (companion s) l))
-        (subst (λ t. UndoesSome (InDerivation s) (rule s (companion s)) (first s (companion s)) t → ⊥) f (undoes-none (companion s) (c .companionKept e)))
+        (subst (λ t. UndoesSome (InDerivation s) (rule s (companion s)) (firstPremise s (companion s)) t → ⊥) f (undoes-none (companion s) (c .companionKept e)))
         (unlike s (verifying s) (companion s) d)
         (sym verified-value ∙ sym z ∙ result s name (companion s) (steps s) l (omega arith)))
     asked-wrong (some at-start) e k =

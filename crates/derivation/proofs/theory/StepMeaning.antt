@@ -49,7 +49,7 @@ module _ {s : List ℕ} (z : Listed s) where
       (term s (yAt s p), w .2 ∙ ap (λ x. node (make (encryption k)) (term s x) (term s (yAt s p))) (u .1 .0), opened k (yAt s p) q (w .1) lq (u .1 .1))
 
 -- a step that passes check 6
-pub record Sound (s : List ℕ) (i : ℕ) : Type 0 where
+pub record SoundStep (s : List ℕ) (i : ℕ) : Type 0 where
   pub rule-below : ruleAt s i < rules
   pub p-below : pAt s i < terms s
   pub q-below : qAt s i < terms s
@@ -61,7 +61,7 @@ picked-below : (b : Bool) (p q n : ℕ) → p < n → q < n → cond b p q < n
 picked-below true p q n l m = l
 picked-below false p q n l m = m
 
-pub sound : {s : List ℕ} → Listed s → (i : ℕ) → badStep s i ≡ false → Sound s i
+pub sound : {s : List ℕ} → Listed s → (i : ℕ) → badStep s i ≡ false → SoundStep s i
 unfolding badStep secondAt hasOne
 sound {s} z i e =
     let u = says-and _ _ (says-ltb (ruleAt s i) rules) (says-and _ _ (says-ltb (pAt s i) (terms s)) (says-and _ _ (says-ltb (qAt s i) (terms s))
