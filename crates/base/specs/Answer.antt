@@ -1,8 +1,5 @@
 -- What a call answers, and the order of checks: document 01, 'Verdicts'.
-use mathlib.Core.Path.{_≡_}
-use mathlib.Core.Bool.{Bool, true, false}
-use mathlib.Core.List.{List, _++_}
-use mathlib.Core.Option.{Option, none, some}
+use mathlib.Core.{Path._≡_, Bool.Bool, Bool.true, Bool.false, List.List, List._++_, Option.Option, Option.none, Option.some}
 use Prim.Native.Nat.{ℕ}
 use lib.ListN.{length, drop}
 

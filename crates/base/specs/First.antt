@@ -1,6 +1,5 @@
 -- The first number at which a test holds. Every refusal of document 01 that names a place names the first one that fails.
-use mathlib.Core.Bool.{Bool, true, false}
-use mathlib.Core.Option.{Option, none, some}
+use mathlib.Core.{Bool.Bool, Bool.true, Bool.false, Option.Option, Option.none, Option.some}
 use Prim.Native.Nat.{ℕ, zero, suc}
 
 -- the first of i, i + 1, .. (n numbers) at which p holds

@@ -1,13 +1,11 @@
 -- What the calls promise that stand in this crate: those for C, and `write_verdict`.
-use mathlib.Core.Path.{_≡_}
-use mathlib.Core.List.{List}
+use mathlib.Core.{Path._≡_, List.List}
 use Prim.Native.Nat.{ℕ, _+_, _*_, _≤_}
 use lib.ListN.{length, take}
 use Rattle.base.specs.Answer.{Answer, done, refused, pageAfter}
 use Rattle.text.specs.Puts.{Puts}
 use Rattle.program.specs.Program.{bytesOf}
-use Rattle.conditions.specs.Check.{checkAnswer}
-use Rattle.conditions.specs.Page.{program}
+use Rattle.conditions.specs.{Check.checkAnswer, Page.program}
 use Rattle.checker.specs.Text.{verdictText}
 
 -- an answer as one number for C: a refusal is its number and its place, 16 bits wide; what is done is its value

@@ -4,8 +4,7 @@ use Prim.Native.Nat.{ℕ}
 use lib.ListN.{replicate}
 use Rattle.submission.specs.Record.{entries}
 use Rattle.text.specs.Text.{answerText}
-use Rattle.conditions.specs.Check.{checkAnswer}
-use Rattle.conditions.specs.Page.{pageChecked}
+use Rattle.conditions.specs.{Check.checkAnswer, Page.pageChecked}
 
 -- "with a page of 388 bytes"
 unfoldable pub verdictText : List ℕ → List ℕ

@@ -6,8 +6,7 @@ use Rattle.base.specs.Answer.{Answer, done, refused, Writes}
 use Rattle.program.specs.Program.{bytesOf}
 use Rattle.conditions.specs.declared.Verdict.{Verdict}
 use Rattle.conditions.specs.declared.Verdict.the-variants.{Accepted, Refused}
-use Rattle.conditions.specs.Check.{checkAnswer}
-use Rattle.conditions.specs.Page.{program}
+use Rattle.conditions.specs.{Check.checkAnswer, Page.program}
 
 -- the answer that a verdict stands for
 abbrev pub verdictAnswer : Verdict → Answer

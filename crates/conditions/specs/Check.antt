@@ -1,17 +1,11 @@
 -- Checks 8 to 11 and the answer of checking: document 01, 'Verdicts'.
-use mathlib.Core.Bool.{Bool, false, _&&_, _||_, not}
-use mathlib.Core.List.{List}
-use mathlib.Core.Option.{Option, none, some}
+use mathlib.Core.{Bool.Bool, Bool.false, Bool._&&_, Bool._||_, Bool.not, List.List, Option.Option, Option.none, Option.some}
 use Prim.Native.Nat.{ℕ}
 use lib.Dec.{eqb, ltb}
-use Rattle.base.specs.First.{first}
+use Rattle.base.specs.{First.first, Answer.Answer, Answer.done, Answer.Check, Answer.failsAt, Answer.failsIf, Answer.andThen, Answer.answered}
 use Rattle.term.specs.Rule.{ruleTakesApart}
-use Rattle.base.specs.Answer.{Answer, done, Check, failsAt, failsIf, andThen, answered}
-use Rattle.submission.specs.Record.{steps, ruleAt, pAt, conclusionAt, verifying, wayAt, companion, areInverse}
-use Rattle.submission.specs.Way.{Way, another-step, at-start, inverse-key, wayOf, row}
-use Rattle.submission.specs.Check.{checks1to5}
-use Rattle.derivation.specs.Register.{isKnown}
-use Rattle.derivation.specs.Step.{secondAt, checkSteps}
+use Rattle.submission.specs.{Record.steps, Record.ruleAt, Record.pAt, Record.conclusionAt, Record.verifying, Record.wayAt, Record.companion, Record.areInverse, Way.Way, Way.another-step, Way.at-start, Way.inverse-key, Way.wayOf, Way.row, Check.checks1to5}
+use Rattle.derivation.specs.{Register.isKnown, Step.secondAt, Step.checkSteps}
 use Rattle.deduction.specs.Deduce.{entryMarks, isDeducible}
 use Rattle.program.specs.Program.{programLength}
 

@@ -1,17 +1,9 @@
 -- The five conditions, as propositions about terms: document 01, 'The five conditions'. Nothing here is computed.
-use mathlib.Core.Path.{_≡_}
-use mathlib.Core.Logic.{_⊎_, _↔_}
-use mathlib.Core.List.{List}
-use mathlib.Core.Option.{Option, none, some}
-use mathlib.Core.Bool.{false}
+use mathlib.Core.{Path._≡_, Logic._⊎_, Logic._↔_, List.List, Option.Option, Option.none, Option.some, Bool.false}
 use Prim.Native.Nat.{ℕ, _<_}
-use Rattle.term.specs.Term.{Head, Term, isKey, inverse}
-use Rattle.term.specs.Rule.{headOf}
-use Rattle.term.specs.Step.{Deducible, Undoes}
+use Rattle.term.specs.{Term.Head, Term.Term, Term.isKey, Term.inverse, Rule.headOf, Step.Deducible, Step.Undoes}
 use Rattle.base.specs.Answer.{passes}
-use Rattle.submission.specs.Record.{steps, ruleAt, pAt, conclusionAt, guess, verifying, wayAt, companion, term, InKnowledge}
-use Rattle.submission.specs.Way.{Way, another-step, at-start, inverse-key, wayOf}
-use Rattle.submission.specs.Check.{checks1to5}
+use Rattle.submission.specs.{Record.steps, Record.ruleAt, Record.pAt, Record.conclusionAt, Record.guess, Record.verifying, Record.wayAt, Record.companion, Record.term, Record.InKnowledge, Way.Way, Way.another-step, Way.at-start, Way.inverse-key, Way.wayOf, Check.checks1to5}
 use Rattle.derivation.specs.Step.{secondAt, badStep}
 
 -- "a submission is well formed when it passes checks 1 to 5 and every step passes check 6"

@@ -1,18 +1,12 @@
 -- Demands 2 and 3, of checking. What the definitions promise; the contracts of the calls say that the code answers what they give.
-use mathlib.Core.Path.{_≡_}
-use mathlib.Core.Logic.{_↔_}
-use mathlib.Core.List.{List}
+use mathlib.Core.{Path._≡_, Logic._↔_, List.List}
 use Prim.Native.Nat.{ℕ, _≤_}
 use lib.ListN.{length, take, drop}
-use Rattle.base.specs.Answer.{done}
-use Rattle.base.specs.Bytes.{Bytes}
+use Rattle.base.specs.{Answer.done, Bytes.Bytes}
 use Rattle.submission.specs.Record.{steps, guess, nameAt}
 use Rattle.program.specs.Program.{bytesOf, programLength}
 use Rattle.machine.specs.Run.{runAnswer}
-use Rattle.conditions.specs.Check.{checkAnswer}
-use Rattle.conditions.specs.Condition.{WellFormed, FiveConditions}
-use Rattle.conditions.specs.Page.{program, pageChecked}
-use Rattle.conditions.specs.Wrong.{WrongGuess}
+use Rattle.conditions.specs.{Check.checkAnswer, Condition.WellFormed, Condition.FiveConditions, Page.program, Page.pageChecked, Wrong.WrongGuess}
 
 -- Demand 2: "A submission is accepted exactly when it is well formed, meets the five conditions of document 01 and has a page long
 -- enough", and the acceptance carries N.

@@ -1,17 +1,12 @@
 -- The register program of a derivation, and the page after checking: document 01, 'The register program' and 'Verdicts'.
-use mathlib.Core.Bool.{cond}
-use mathlib.Core.List.{List}
-use mathlib.Core.Option.{Option, none, some}
+use mathlib.Core.{Bool.cond, List.List, Option.Option, Option.none, Option.some}
 use Prim.Native.Nat.{ℕ, _+_}
 use lib.ListN.{length}
-use Rattle.base.specs.Grow.{listed}
+use Rattle.base.specs.{Grow.listed, Answer.pageAfter}
 use Rattle.term.specs.Rule.{hasOne}
-use Rattle.base.specs.Answer.{pageAfter}
-use Rattle.submission.specs.Record.{steps, ruleAt, pAt, qAt, conclusionAt, verifying, wayAt, companion}
-use Rattle.submission.specs.Way.{Way, wayOf, Operand, verifying-result, companion-result, lowest-conclusion, lowest-companion, row}
+use Rattle.submission.specs.{Record.steps, Record.ruleAt, Record.pAt, Record.qAt, Record.conclusionAt, Record.verifying, Record.wayAt, Record.companion, Way.Way, Way.wayOf, Way.Operand, Way.verifying-result, Way.companion-result, Way.lowest-conclusion, Way.lowest-companion, Way.row}
 use Rattle.derivation.specs.Register.{written, lowestOf}
-use Rattle.program.specs.Tests.{rowOf}
-use Rattle.program.specs.Program.{Instruction, Test, Program, bytesOf}
+use Rattle.program.specs.{Tests.rowOf, Program.Instruction, Program.Test, Program.Program, Program.bytesOf}
 use Rattle.conditions.specs.Check.{checkAnswer}
 
 -- "K+1+i the result of step i"

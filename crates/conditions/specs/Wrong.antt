@@ -1,7 +1,6 @@
 -- Wrong guesses: "all other atoms of the guess's kind, except one that is part of a message in the knowledge or the inverse of a key
 -- that is such a part".
-use mathlib.Core.Path.{_≡_}
-use mathlib.Core.List.{List}
+use mathlib.Core.{Path._≡_, List.List}
 use Prim.Native.Nat.{ℕ}
 use Rattle.term.specs.Fresh.{Fresh}
 use Rattle.submission.specs.Record.{guess, nameAt, InKnowledge}

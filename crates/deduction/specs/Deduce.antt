@@ -1,19 +1,12 @@
 -- Deducible as a computed answer: document 01, 'Dolev-Yao steps' and row 12 of 'Verdicts'.
 -- Terms are first taken apart, as far as the keys that can be built allow; a term is deducible when it can be built from what that reaches.
 -- That this is what finite lists of steps reach is a theorem of this crate.
-use mathlib.Core.Path.{_≡_}
-use mathlib.Core.Bool.{Bool, true, false, _&&_, _||_, not, cond}
-use mathlib.Core.List.{List}
+use mathlib.Core.{Path._≡_, Bool.Bool, Bool.true, Bool.false, Bool._&&_, Bool._||_, Bool.not, Bool.cond, List.List}
 use Prim.Native.Nat.{ℕ, zero, suc, _<_}
-use lib.Dec.{eqb, ltb}
-use lib.ListN.{getD}
-use Rattle.base.specs.First.{any}
-use Rattle.base.specs.Grow.{listed}
-use Rattle.term.specs.Term.{Cipher, symmetric, asymmetric, pair, encryption, make, part, decrypt, Term}
-use Rattle.term.specs.Table.{Rec, leaf, branch}
-use Rattle.base.specs.Answer.{Answer, done, failsIf, andThen, answered}
-use Rattle.submission.specs.Record.{terms, entries, entryAt, recordAt, term, areInverse}
-use Rattle.submission.specs.Check.{checks1to4}
+use lib.{Dec.eqb, Dec.ltb, ListN.getD}
+use Rattle.base.specs.{First.any, Grow.listed, Answer.Answer, Answer.done, Answer.failsIf, Answer.andThen, Answer.answered}
+use Rattle.term.specs.{Term.Cipher, Term.symmetric, Term.asymmetric, Term.pair, Term.encryption, Term.make, Term.part, Term.decrypt, Term.Term, Table.Rec, Table.leaf, Table.branch}
+use Rattle.submission.specs.{Record.terms, Record.entries, Record.entryAt, Record.recordAt, Record.term, Record.areInverse, Check.checks1to4}
 
 -- a mark for each term number
 abbrev pub at : List Bool → ℕ → Bool

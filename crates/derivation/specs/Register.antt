@@ -1,7 +1,5 @@
 -- The registers' terms: document 01, 'The register program'.
-use mathlib.Core.Bool.{Bool, true, _&&_, cond}
-use mathlib.Core.List.{List}
-use mathlib.Core.Option.{Option}
+use mathlib.Core.{Bool.Bool, Bool.true, Bool._&&_, Bool.cond, List.List, Option.Option}
 use Prim.Native.Nat.{ℕ, _+_, _-_}
 use lib.Dec.{eqb, ltb}
 use Rattle.base.specs.First.{first, any}

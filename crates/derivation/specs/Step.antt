@@ -1,14 +1,9 @@
 -- Steps, and checks 6 and 7: document 01, 'Dolev-Yao steps' and 'Verdicts'.
-use mathlib.Core.Bool.{Bool, _&&_, _||_, not, cond}
-use mathlib.Core.List.{List}
-use mathlib.Core.Option.{Option, none, some}
+use mathlib.Core.{Bool.Bool, Bool._&&_, Bool._||_, Bool.not, Bool.cond, List.List, Option.Option, Option.none, Option.some}
 use Prim.Native.Nat.{ℕ}
 use lib.Dec.{eqb, ltb}
-use Rattle.base.specs.First.{first}
-use Rattle.term.specs.Term.{Cipher, symmetric, asymmetric, Side, left, right, pair, encryption, Head, make, part, decrypt, compound}
-use Rattle.term.specs.Kind.{kindOf}
-use Rattle.term.specs.Rule.{isRule, headOf, hasOne}
-use Rattle.base.specs.Answer.{Check, passes, fails}
+use Rattle.base.specs.{First.first, Answer.Check, Answer.passes, Answer.fails}
+use Rattle.term.specs.{Term.Cipher, Term.symmetric, Term.asymmetric, Term.Side, Term.left, Term.right, Term.pair, Term.encryption, Term.Head, Term.make, Term.part, Term.decrypt, Term.compound, Kind.kindOf, Rule.isRule, Rule.headOf, Rule.hasOne}
 use Rattle.submission.specs.Record.{terms, steps, kindAt, xAt, yAt, ruleAt, pAt, qAt, conclusionAt, areInverse}
 use Rattle.derivation.specs.Register.{isKnown}
 

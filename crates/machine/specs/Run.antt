@@ -1,22 +1,11 @@
 -- The machine: document 01, 'Machine'. "Run takes a submission, a 16-bit name and a program."
-use mathlib.Core.Bool.{Bool, false, cond}
-use mathlib.Core.List.{List, [], _∷_, _++_}
-use mathlib.Core.Option.{Option, none, some}
+use mathlib.Core.{Bool.Bool, Bool.false, Bool.cond, List.List, List.[], List._∷_, List._++_, Option.Option, Option.none, Option.some}
 use Prim.Native.Nat.{ℕ}
 use lib.ListN.{getD}
-use Rattle.base.specs.Grow.{grow, listed}
-use Rattle.term.specs.Term.{Kind, plain, asymmetric, Shape, atomic, compound, Term, atom, term?, test}
-use Rattle.term.specs.Kind.{shapeOf}
-use Rattle.term.specs.Table.{void}
-use Rattle.term.specs.Reduce.{op, match?}
-use Rattle.term.specs.Rule.{headOf}
-use Rattle.base.specs.Answer.{Answer, done, andThen, answered}
-use Rattle.base.specs.Bytes.{byte}
-use Rattle.submission.specs.Record.{entries, entryAt, guess, kindAt, term}
-use Rattle.submission.specs.Check.{checks1to5}
-use Rattle.term.specs.Relation.{Relation, equal, inverse}
-use Rattle.program.specs.Tests.{relationOf}
-use Rattle.program.specs.Program.{Instruction, Test, instructionAt, testAt, operand, check13}
+use Rattle.base.specs.{Grow.grow, Grow.listed, Answer.Answer, Answer.done, Answer.andThen, Answer.answered, Bytes.byte}
+use Rattle.term.specs.{Term.Kind, Term.plain, Term.asymmetric, Term.Shape, Term.atomic, Term.compound, Term.Term, Term.atom, Term.term?, Term.test, Kind.shapeOf, Table.void, Reduce.op, Reduce.match?, Rule.headOf, Relation.Relation, Relation.equal, Relation.inverse}
+use Rattle.submission.specs.{Record.entries, Record.entryAt, Record.guess, Record.kindAt, Record.term, Check.checks1to5}
+use Rattle.program.specs.{Tests.relationOf, Program.Instruction, Program.Test, Program.instructionAt, Program.testAt, Program.operand, Program.check13}
 
 abbrev pub atomKind : Option Shape → Kind
 atomKind none = plain

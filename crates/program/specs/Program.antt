@@ -1,13 +1,9 @@
 -- Register programs: their instructions and test, their bytes, and check 13. Document 01, 'The register program' and 'Verdicts'.
-use mathlib.Core.Bool.{Bool, _&&_, _||_, not, cond}
-use mathlib.Core.List.{List, [], _∷_, _++_}
+use mathlib.Core.{Bool.Bool, Bool._&&_, Bool._||_, Bool.not, Bool.cond, List.List, List.[], List._∷_, List._++_}
 use Prim.Native.Nat.{ℕ, _+_, _*_}
-use lib.Dec.{eqb, ltb}
-use lib.ListN.{length}
-use Rattle.base.specs.First.{any}
+use lib.{Dec.eqb, Dec.ltb, ListN.length}
+use Rattle.base.specs.{First.any, Answer.Check, Answer.failsIf, Bytes.byte}
 use Rattle.term.specs.Rule.{isRule, hasOne}
-use Rattle.base.specs.Answer.{Check, failsIf}
-use Rattle.base.specs.Bytes.{byte}
 use Rattle.submission.specs.Record.{entries}
 use Rattle.program.specs.Tests.{relationOf, registersOf, isTest}
 

@@ -1,7 +1,5 @@
 -- The tests that end a program: document 01, 'The register program'. This is the one place that lists them.
-use mathlib.Core.Bool.{Bool, cond}
-use mathlib.Core.List.{List, [], _∷_}
-use mathlib.Core.Option.{Option, none, some}
+use mathlib.Core.{Bool.Bool, Bool.cond, List.List, List.[], List._∷_, Option.Option, Option.none, Option.some}
 use Prim.Native.Nat.{ℕ}
 use lib.Dec.{eqb, ltb}
 use Rattle.term.specs.Relation.{Relation, equal, inverse}

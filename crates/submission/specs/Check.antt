@@ -1,16 +1,10 @@
 -- Checks 3 to 5, and the first five in order: document 01, 'Verdicts'.
-use mathlib.Core.Bool.{Bool, true, false, _&&_, _||_, not, cond}
-use mathlib.Core.List.{List}
-use mathlib.Core.Option.{Option, none, some}
+use mathlib.Core.{Bool.Bool, Bool.true, Bool.false, Bool._&&_, Bool._||_, Bool.not, Bool.cond, List.List, Option.Option, Option.none, Option.some}
 use Prim.Native.Nat.{ℕ}
 use lib.Dec.{eqb, ltb}
-use Rattle.base.specs.First.{first, any}
-use Rattle.term.specs.Term.{second, unary, Shape, atomic, compound, takes, isAtomic}
-use Rattle.term.specs.Kind.{shapeOf}
-use Rattle.base.specs.Answer.{Check, failsAt, failsIf, andThen}
-use Rattle.submission.specs.Contents.{check1, check2}
-use Rattle.submission.specs.Record.{terms, entries, kindAt, xAt, yAt, entryAt, guess, wayAt}
-use Rattle.submission.specs.Way.{wayOf, claimFits}
+use Rattle.base.specs.{First.first, First.any, Answer.Check, Answer.failsAt, Answer.failsIf, Answer.andThen}
+use Rattle.term.specs.{Term.second, Term.unary, Term.Shape, Term.atomic, Term.compound, Term.takes, Term.isAtomic, Kind.shapeOf}
+use Rattle.submission.specs.{Contents.check1, Contents.check2, Record.terms, Record.entries, Record.kindAt, Record.xAt, Record.yAt, Record.entryAt, Record.guess, Record.wayAt, Way.wayOf, Way.claimFits}
 
 -- "In 4 to 6, x and y number earlier terms", and y is of a kind that the form takes; where there is no second operand, y is 0
 abbrev pub shapeFits : List ℕ → ℕ → Option Shape → Bool

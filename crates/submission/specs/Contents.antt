@@ -1,12 +1,8 @@
 -- The table of contents and the counts: document 01, 'The submission'; checks 1 and 2.
-use mathlib.Core.Bool.{Bool, _||_, not}
-use mathlib.Core.List.{List, [], _∷_}
+use mathlib.Core.{Bool.Bool, Bool._||_, Bool.not, List.List, List.[], List._∷_}
 use Prim.Native.Nat.{ℕ, zero, suc, _+_, _*_, _≤_, _<_}
-use lib.Dec.{eqb, ltb}
-use lib.ListN.{length, getD}
-use Rattle.base.specs.First.{first, any}
-use Rattle.base.specs.Bytes.{byte, word}
-use Rattle.base.specs.Answer.{Check, failsAt, failsIf}
+use lib.{Dec.eqb, Dec.ltb, ListN.length, ListN.getD}
+use Rattle.base.specs.{First.first, First.any, Bytes.byte, Bytes.word, Answer.Check, Answer.failsAt, Answer.failsIf}
 
 -- "four entries of 4 bytes: a letter, a one-byte count, a two-byte start"; entries 0 to 3
 -- "The letters, in order, are T terms, K knowledge, D derivation, V claim."

@@ -1,10 +1,8 @@
 -- Freshness for the knowledge, as a test.
-use mathlib.Core.Bool.{Bool, _&&_, not}
-use mathlib.Core.List.{List}
+use mathlib.Core.{Bool.Bool, Bool._&&_, Bool.not, List.List}
 use Rattle.base.specs.First.{any}
 use Prim.Native.Nat.{ℕ}
-use Rattle.term.specs.Term.{Term, inverse}
-use Rattle.term.specs.Fresh.{isPart}
+use Rattle.term.specs.{Term.Term, Term.inverse, Fresh.isPart}
 use Rattle.submission.specs.Record.{entries, entryAt, term}
 
 -- x is part of a message in the knowledge

@@ -1,14 +1,8 @@
 -- The records and their meaning: document 01, 'The submission'. "Records count from 0."
-use mathlib.Core.Path.{_≡_}
-use mathlib.Core.Bool.{Bool, _&&_, cond}
-use mathlib.Core.List.{List}
-use mathlib.Core.Option.{Option, none, some}
+use mathlib.Core.{Path._≡_, Bool.Bool, Bool._&&_, Bool.cond, List.List, Option.Option, Option.none, Option.some}
 use Prim.Native.Nat.{ℕ, _+_, _*_, _<_}
-use lib.Dec.{eqb}
-use lib.ListN.{getD}
-use Rattle.term.specs.Term.{plain, unary, make, Shape, atomic, compound, Term}
-use Rattle.term.specs.Kind.{shapeOf, inverseKinds}
-use Rattle.term.specs.Table.{Rec, leaf, branch, decoded, void}
+use lib.{Dec.eqb, ListN.getD}
+use Rattle.term.specs.{Term.plain, Term.unary, Term.make, Term.Shape, Term.atomic, Term.compound, Term.Term, Kind.shapeOf, Kind.inverseKinds, Table.Rec, Table.leaf, Table.branch, Table.decoded, Table.void}
 use Rattle.base.specs.Bytes.{byte}
 use Rattle.submission.specs.Contents.{count, start}
 

@@ -1,8 +1,6 @@
 -- The ways of a claim, in one table: document 01, 'The submission', conditions 4 and 5, the test of 'The register program', and row 5 of 'Verdicts'.
 -- What condition 4 asks in each way is in the crate `conditions`.
-use mathlib.Core.Bool.{Bool, true, false, _&&_, cond}
-use mathlib.Core.List.{List}
-use mathlib.Core.Option.{Option, none, some}
+use mathlib.Core.{Bool.Bool, Bool.true, Bool.false, Bool._&&_, Bool.cond, List.List, Option.Option, Option.none, Option.some}
 use Prim.Native.Nat.{ℕ}
 use lib.Dec.{eqb, ltb}
 use Rattle.term.specs.Relation.{Relation, equal, inverse}

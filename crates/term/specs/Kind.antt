@@ -1,12 +1,8 @@
 -- The kinds' numbers: document 01, 'The submission', Terms. This is the one place that lists them.
-use mathlib.Core.Bool.{Bool, false, _&&_, _||_}
-use mathlib.Core.List.{List, [], _∷_}
-use mathlib.Core.Option.{Option, none, some}
+use mathlib.Core.{Bool.Bool, Bool.false, Bool._&&_, Bool._||_, List.List, List.[], List._∷_, Option.Option, Option.none, Option.some}
 use Prim.Native.Nat.{ℕ, zero, suc}
 use lib.Dec.{eqb}
-use Rattle.term.specs.Term.{plain, public, private, symmetric, asymmetric, pair, encryption, Second, absent, second, unary, make, Shape, atomic, compound, shape?}
-use Rattle.term.specs.Numbered.{entry, place}
-use Rattle.term.specs.Rule.{rules, ruleOf}
+use Rattle.term.specs.{Term.plain, Term.public, Term.private, Term.symmetric, Term.asymmetric, Term.pair, Term.encryption, Term.Second, Term.absent, Term.second, Term.unary, Term.make, Term.Shape, Term.atomic, Term.compound, Term.shape?, Numbered.entry, Numbered.place, Rule.rules, Rule.ruleOf}
 
 -- "Kinds 1 plain atom, 2 public key, 3 private key .. Kind 4 pair(x, y); 5 enc(x, y) ..; 6 enca(x, y)"
 abbrev pub kinds : List Shape

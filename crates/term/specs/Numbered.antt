@@ -1,7 +1,5 @@
 -- A table is a list, and the number of an entry is its place in the list.
-use mathlib.Core.Bool.{cond}
-use mathlib.Core.List.{List, [], _∷_}
-use mathlib.Core.Option.{Option, none, some}
+use mathlib.Core.{Bool.cond, List.List, List.[], List._∷_, Option.Option, Option.none, Option.some}
 use Prim.Native.Nat.{ℕ, zero, suc}
 use Rattle.term.specs.Term.{test}
 

@@ -1,7 +1,6 @@
 -- The machine's step over terms: document 01, 'Machine'.
 -- "Each rule forms a term with its own head .. unless one of these reductions applies to it."
-use mathlib.Core.Path.{_≡_}
-use mathlib.Core.Logic.{ite, Dec·and}
+use mathlib.Core.{Path._≡_, Logic.ite, Logic.Dec·and}
 use Rattle.term.specs.Term.{plain, public, private, Cipher, symmetric, asymmetric, Side, left, right, Form, pair, encryption, Head, make, part, decrypt, Term, atom, node, head?, term?, isKey, Fits, turn, Match}
 
 unfoldable pub isKey? : (t : Term) → Dec (isKey t)

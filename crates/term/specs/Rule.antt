@@ -1,13 +1,8 @@
 -- The rules' numbers and words: document 01, the table of 'Dolev-Yao steps'. This is the one place that lists them.
-use mathlib.Core.Bool.{Bool, false, _&&_}
-use mathlib.Core.Option.{Option, none, some}
-use mathlib.Core.List.{List, [], _∷_, map}
+use mathlib.Core.{Bool.Bool, Bool.false, Bool._&&_, Option.Option, Option.none, Option.some, List.List, List.[], List._∷_, List.map}
 use Prim.Native.Nat.{ℕ}
-use lib.Dec.{ltb}
-use lib.ListN.{length, getD}
-use Rattle.term.specs.Term.{symmetric, asymmetric, left, right, pair, encryption, Head, make, part, decrypt, head?, single, test}
-use Rattle.term.specs.Step.{takenBy}
-use Rattle.term.specs.Numbered.{place}
+use lib.{Dec.ltb, ListN.length, ListN.getD}
+use Rattle.term.specs.{Term.symmetric, Term.asymmetric, Term.left, Term.right, Term.pair, Term.encryption, Term.Head, Term.make, Term.part, Term.decrypt, Term.head?, Term.single, Term.test, Step.takenBy, Numbered.place}
 
 pub record Rule : Type 0 where
   pub head : Head

@@ -1,7 +1,6 @@
 -- A table of records: each is an atom, or a head over the numbers of two earlier records.
 -- The submission's terms are such a table, and so are the terms that the machine holds.
-use mathlib.Core.Path.{_≡_}
-use mathlib.Core.List.{List, []}
+use mathlib.Core.{Path._≡_, List.List, List.[]}
 use Prim.Native.Nat.{ℕ, _<_}
 use lib.ListN.{getD}
 use Rattle.base.specs.Grow.{grow}

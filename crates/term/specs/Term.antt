@@ -1,9 +1,6 @@
 -- Terms, keys and parts: document 01, 'The submission' and 'The register program'.
 -- A term is an atom, or a head over its operands. The numbers of kinds and rules are in `Kind` and `Rule`.
-use mathlib.Core.Path.{_≡_}
-use mathlib.Core.Logic.{_⊎_}
-use mathlib.Core.Bool.{Bool, true, false}
-use mathlib.Core.Option.{Option, none, some}
+use mathlib.Core.{Path._≡_, Logic._⊎_, Bool.Bool, Bool.true, Bool.false, Option.Option, Option.none, Option.some}
 use Prim.Native.Nat.{ℕ}
 use native.Mathlib.Decide.{ℕ-discrete}
 

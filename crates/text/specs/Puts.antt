@@ -1,9 +1,7 @@
 -- What the code's results mean: a text put into a buffer.
-use mathlib.Core.Path.{_≡_}
-use mathlib.Core.List.{List}
+use mathlib.Core.{Path._≡_, List.List}
 use Prim.Native.Nat.{ℕ, _+_, _-_, min}
-use lib.ListN.{length}
-use lib.Seq.{sets}
+use lib.{ListN.length, Seq.sets}
 
 -- the text is stored in the buffer old from place i on, as far as the buffer reaches: new is the buffer afterwards, j the place reached
 pub record Puts (old : List ℕ) (i : ℕ) (text new : List ℕ) (j : ℕ) : Type 0 where

@@ -1,12 +1,10 @@
 -- What the program `verdict` prints, as bytes: document 01, after 'Marked examples'.
-use mathlib.Core.Bool.{true, false, cond}
-use mathlib.Core.List.{List, [], _∷_, _++_}
+use mathlib.Core.{Bool.true, Bool.false, Bool.cond, List.List, List.[], List._∷_, List._++_}
 use Prim.Native.Nat.{ℕ, zero, suc, _+_, _/_, _%_}
 use lib.Dec.{ltb}
 use Rattle.term.specs.Rule.{wordOf, hasOne}
 use Rattle.base.specs.Answer.{Answer, done, refused}
-use Rattle.program.specs.Tests.{relationOf, relationWord}
-use Rattle.program.specs.Program.{Instruction, Test, instructionAt, testAt}
+use Rattle.program.specs.{Tests.relationOf, Tests.relationWord, Program.Instruction, Program.Test, Program.instructionAt, Program.testAt}
 
 -- a number in decimal, in ASCII; a number has fewer digits than itself and one
 unfoldable pub digits : ℕ → ℕ → List ℕ
