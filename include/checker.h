@@ -3,8 +3,9 @@
    Every call takes any bytes, in any number, and ends. A buffer is a pointer, never null, and a length. Only the page is written, and
    no other buffer overlaps it.
 
-   An answer is one number. A refusal is number * 65536 + place, with the numbers and places of document 01; every other answer is
-   below 65536. That each call answers what the definitions under crates/ give, and leaves those bytes on the page, is proved. */
+   An answer is one number. A refusal is number * 65536 + place, with the numbers and places of docs/VERDICTS.md; every other answer is
+   below 65536. That each call answers what the definitions under crates/ give, and leaves those bytes on the page, is proved: the
+   contracts are in crates/checker/src/calls.rt. */
 #ifndef CHECKER_H
 #define CHECKER_H
 
