@@ -1,6 +1,6 @@
 -- What the code's answers mean in document 01's terms.
-use Rattle.base.specs.declared.Answer.{Answer as AnswerGiven}
 use Rattle.base.specs.declared.Answer.the-variants as given
+use Rattle.base.specs.declared.Answer.{Answer as AnswerGiven}
 use Rattle.base.specs.declared.Stage.{Stage}
 use Rattle.base.specs.declared.Stage.the-variants.{Passed, Refused}
 use Rattle.base.specs.Answer.{Answer, done, refused, Check, passes, fails}

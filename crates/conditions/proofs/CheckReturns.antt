@@ -14,7 +14,7 @@ use Rattle.base.specs.declared.Stage.{Stage}
 use Rattle.base.specs.declared.Stage.the-variants as stage
 use Rattle.base.specs.Answer.{Answer, done, refused, Check, passes, fails, andThen, answered}
 use Rattle.base.specs.Bytes.{byte}
-use Rattle.submission.specs.Contents.{Limited}
+use Rattle.submission.specs.Code.{Limited}
 use Rattle.submission.specs.Record.{steps}
 use Rattle.submission.specs.Check.{checks1to5}
 use Rattle.base.specs.Code.{checkOf}

@@ -7,7 +7,7 @@ use Rattle.base.proofs.Says.{not-not-false}
 use Rattle.term.specs.Rule.{hasOne}
 use Rattle.submission.specs.declared.Claim.{Claim}
 use Rattle.base.specs.Answer.{fails, failsIf}
-use Rattle.submission.specs.Contents.{Limited}
+use Rattle.submission.specs.Code.{Limited}
 use Rattle.submission.specs.Record.{terms, steps, verifying, wayAt}
 use Rattle.submission.specs.Way.{wayOf}
 use Rattle.submission.specs.Check.{checks1to5}
@@ -19,9 +19,10 @@ use Rattle.derivation.specs.declared.Step.{Step}
 use Rattle.derivation.specs.Step.{secondAt, checkSteps}
 use Rattle.derivation.specs.Code.{IsStep}
 use Rattle.derivation.proofs.theory.StepMeaning.{SoundStep, sound, steps-pass}
-use Rattle.deduction.specs.Deduce.{entryMarks, isDeducible}
+use Rattle.deduction.specs.Computed.{entryMarks, isDeducible}
 use Rattle.deduction.specs.Code.{TableRead}
-use Rattle.conditions.specs.Check.{reachable, hasSecondWay, check8, check9, check10, checks1to10}
+use Rattle.conditions.specs.Computed.{reachable, hasSecondWay}
+use Rattle.conditions.specs.Check.{check8, check9, check10, checks1to10}
 use Rattle.conditions.specs.Code.{Founded, Acceptable}
 
 -- the second premise of step i, read off its record

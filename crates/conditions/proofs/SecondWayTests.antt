@@ -14,7 +14,7 @@ use Rattle.base.proofs.First.{first-none, first-some, passed-any, passed-not-an
 use Rattle.base.proofs.Order.{lt-or-ge}
 use Rattle.term.specs.Rule.{hasOne}
 use Rattle.submission.specs.declared.Claim.{Claim}
-use Rattle.submission.specs.Contents.{Limited}
+use Rattle.submission.specs.Code.{Limited}
 use Rattle.submission.specs.Record.{entries, steps, pAt, wayAt, companion, areInverse}
 use Rattle.submission.specs.declared.Way.the-variants.{AnotherStep, AtStart, InverseKey}
 use Rattle.submission.specs.Way.{wayOf}
@@ -24,7 +24,7 @@ use Rattle.derivation.specs.declared.Registers.{Registers}
 use Rattle.derivation.specs.Register.{written, isKnown}
 use Rattle.derivation.specs.Step.{secondAt}
 use Rattle.derivation.specs.Code.{IsStep, Registered, orNone}
-use Rattle.conditions.specs.Check.{isPremise, samePremises, hasSecondWay}
+use Rattle.conditions.specs.Computed.{isPremise, samePremises, hasSecondWay}
 use Rattle.conditions.specs.Code.{otherWay}
 use Rattle.conditions.proofs.PassedFacts.{second-is}
 

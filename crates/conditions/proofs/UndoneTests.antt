@@ -12,7 +12,7 @@ use Rattle.submission.specs.Way.{row}
 use Rattle.submission.specs.Code.{wayIs, rowIs, IsClaim}
 use Rattle.derivation.specs.declared.Step.{Step}
 use Rattle.derivation.specs.Code.{IsStep}
-use Rattle.conditions.specs.Check.{dismantles, undoesStep, companionUndoes, undone}
+use Rattle.conditions.specs.Computed.{dismantles, undoesStep, companionUndoes, undone}
 
 -- ---- a step undoes another: steps j and i, whose records are a and b
 module _ {s : List ℕ} {j i : ℕ} {a b : Step} (h : IsStep s j a) (k : IsStep s i b) {x : Bool} (e : x ≡ dismantles (a .rule) (a .p) (b .rule) (b .conclusion)) where

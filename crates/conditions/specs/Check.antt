@@ -1,58 +1,18 @@
 -- Checks 8 to 11 and the answer of checking: document 01, 'Verdicts'.
-use mathlib.Core.{Bool.Bool, Bool.false, Bool._&&_, Bool._||_, Bool.not, List.List, Option.Option, Option.none, Option.some}
+use mathlib.Core.{Bool.not, List.List}
 use Prim.Native.Nat.{ℕ}
-use lib.Dec.{eqb, ltb}
+use lib.Dec.{ltb}
 use Rattle.base.specs.{First.first, Answer.Answer, Answer.done, Answer.Check, Answer.failsAt, Answer.failsIf, Answer.andThen, Answer.answered}
-use Rattle.term.specs.Rule.{ruleTakesApart}
-use Rattle.submission.specs.{Record.steps, Record.ruleAt, Record.pAt, Record.conclusionAt, Record.verifying, Record.wayAt, Record.companion, Record.areInverse, Way.Way, Way.another-step, Way.at-start, Way.inverse-key, Way.wayOf, Way.row, Check.checks1to5}
-use Rattle.derivation.specs.{Register.isKnown, Step.secondAt, Step.checkSteps}
-use Rattle.deduction.specs.Deduce.{entryMarks, isDeducible}
+use Rattle.submission.specs.{Record.steps, Record.verifying, Record.wayAt, Way.wayOf, Check.checks1to5}
+use Rattle.derivation.specs.Step.{checkSteps}
 use Rattle.program.specs.Program.{programLength}
-
--- 8 reachable: "condition 3 broken"; every premise of the verifying step is deducible from the knowledge, in which the guess does not count
-unfoldable pub reachable : List ℕ → Bool
-reachable s =
-    isDeducible s (entryMarks s) (pAt s (verifying s)) && isDeducible s (entryMarks s) (secondAt s (verifying s))
+use Rattle.conditions.specs.Computed.{reachable, hasSecondWay, undone}
 
 abbrev pub check8 : List ℕ → Check
 check8 s = failsIf (reachable s) 8 (verifying s)
 
--- the premise sets of two steps are equal: each holds the other's members
-abbrev pub isPremise : List ℕ → ℕ → ℕ → Bool
-isPremise s i t = eqb t (pAt s i) || eqb t (secondAt s i)
-
-unfoldable pub samePremises : List ℕ → ℕ → ℕ → Bool
-samePremises s i j =
-    (isPremise s j (pAt s i) && isPremise s j (secondAt s i)) && (isPremise s i (pAt s j) && isPremise s i (secondAt s j))
-
--- 9 no second way: "condition 4 broken". Before step 0 the knowledge and the guess are known.
-abbrev pub hasSecondWay : List ℕ → Option Way → Bool
-hasSecondWay s none = false
-hasSecondWay s (some another-step) =
-    eqb (conclusionAt s (companion s)) (conclusionAt s (verifying s))
-    && (not (eqb (ruleAt s (verifying s)) (ruleAt s (companion s))) || not (samePremises s (verifying s) (companion s)))
-hasSecondWay s (some at-start) = isKnown s 0 (conclusionAt s (verifying s))
-hasSecondWay s (some inverse-key) = areInverse s (conclusionAt s (verifying s)) (companion s) && isKnown s (steps s) (companion s)
-
 abbrev pub check9 : List ℕ → Check
 check9 s = failsIf (not (hasSecondWay s (wayOf (wayAt s)))) 9 (verifying s)
-
--- a step of the rule r on the first premise p takes apart the very term t that a step of the rule b concludes
-abbrev pub dismantles : ℕ → ℕ → ℕ → ℕ → Bool
-dismantles r p b t = ruleTakesApart r b && eqb p t
-
--- 10 undone: "condition 5 broken", place "lowest undone step". Step j undoes step i.
-unfoldable pub undoesStep : List ℕ → ℕ → ℕ → Bool
-undoesStep s j i =
-    dismantles (ruleAt s j) (pAt s j) (ruleAt s i) (conclusionAt s i) || dismantles (ruleAt s i) (pAt s i) (ruleAt s j) (conclusionAt s j)
-
--- in way a the companion must undo nothing either
-abbrev pub companionUndoes : List ℕ → Option Way → ℕ → Bool
-companionUndoes s none i = false
-companionUndoes s (some w) i = row w .companionKept && undoesStep s (companion s) i
-
-unfoldable pub undone : List ℕ → ℕ → Bool
-undone s i = undoesStep s (verifying s) i || companionUndoes s (wayOf (wayAt s)) i
 
 abbrev pub check10 : List ℕ → Check
 check10 s = failsAt 10 (first (undone s) (steps s))

@@ -1,17 +1,11 @@
 -- What the code's tests and requirements mean in document 01's terms.
-use mathlib.Core.Path.{_≡_}
-use mathlib.Core.Bool.{Bool, true, false, _&&_, _||_, not}
-use mathlib.Core.List.{List}
+use mathlib.Core.{Path._≡_, Bool.Bool, Bool.true, Bool._&&_, Bool._||_, Bool.not, List.List}
 use Prim.Native.Nat.{ℕ, _<_}
 use lib.Dec.{eqb}
-use Rattle.base.specs.Answer.{passes}
-use Rattle.base.specs.Bytes.{Bytes}
-use Rattle.submission.specs.Record.{steps, ruleAt, conclusionAt, verifying, companion}
-use Rattle.submission.specs.Way.{Operand, verifying-result, companion-result, lowest-conclusion, lowest-companion}
-use Rattle.derivation.specs.Register.{isKnown}
-use Rattle.submission.specs.Check.{checks1to5}
-use Rattle.derivation.specs.Step.{checkSteps}
-use Rattle.conditions.specs.Check.{samePremises, checks1to10}
+use Rattle.base.specs.{Answer.passes, Bytes.Bytes}
+use Rattle.submission.specs.{Record.steps, Record.ruleAt, Record.conclusionAt, Record.verifying, Record.companion, Way.Operand, Way.verifying-result, Way.companion-result, Way.lowest-conclusion, Way.lowest-companion, Check.checks1to5}
+use Rattle.derivation.specs.{Register.isKnown, Step.checkSteps}
+use Rattle.conditions.specs.{Computed.samePremises, Check.checks1to10}
 
 -- bytes that passed checks 1 to 7
 pub record Founded (s : List ℕ) : Type 0 where

@@ -1,6 +1,7 @@
 pub mod Calls
 pub mod Check
 pub mod Code
+pub mod Computed
 pub mod Condition
 pub mod Demand
 pub mod Page

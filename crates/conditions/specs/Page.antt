@@ -1,6 +1,6 @@
 -- The register program of a derivation, and the page after checking: document 01, 'The register program' and 'Verdicts'.
 use mathlib.Core.{Bool.cond, List.List, Option.Option, Option.none, Option.some}
-use Prim.Native.Nat.{ℕ, _+_}
+use Prim.Native.Nat.{ℕ}
 use lib.ListN.{length}
 use Rattle.base.specs.{Grow.listed, Answer.pageAfter}
 use Rattle.term.specs.Rule.{hasOne}

@@ -7,7 +7,7 @@ use submission::Way;
 use term::rules;
 ghost use mathlib.Core.Path.{_≡_};
 ghost use mathlib.Core.Bool.{_&&_};
-ghost use Rattle.submission.specs.Contents.{Limited};
+ghost use Rattle.submission.specs.Code.{Limited};
 ghost use Rattle.submission.specs.Record.{steps, pAt, wayAt, areInverse};
 ghost use Rattle.submission.specs.Way.{wayOf};
 ghost use Rattle.base.specs.Answer.{andThen};
@@ -16,7 +16,8 @@ ghost use Rattle.submission.specs.Code.{IsClaim};
 ghost use Rattle.derivation.specs.Register.{written, isKnown};
 ghost use Rattle.derivation.specs.Step.{secondAt};
 ghost use Rattle.derivation.specs.Code.{Registered};
-ghost use Rattle.conditions.specs.Check.{reachable, isPremise, samePremises, hasSecondWay, dismantles as dismantlesBy, undoesStep, undone, check8, check9, check10};
+ghost use Rattle.conditions.specs.Computed.{reachable, isPremise, samePremises, hasSecondWay, dismantles as dismantlesBy, undoesStep, undone};
+ghost use Rattle.conditions.specs.Check.{check8, check9, check10};
 ghost use Rattle.conditions.specs.Code.{Founded, otherWay};
 
 // Condition 3 broken: both premises of the verifying step are deducible from the knowledge, without the guess.

@@ -10,7 +10,7 @@ ghost use mathlib.Core.Path.{_≡_};
 ghost use mathlib.Core.List.{_++_};
 ghost use Prim.Native.Nat.{_≤_, _<_};
 ghost use lib.ListN.{length, drop};
-ghost use Rattle.submission.specs.Contents.{Limited};
+ghost use Rattle.submission.specs.Code.{Limited};
 ghost use Rattle.submission.specs.Record.{steps, conclusionAt};
 ghost use Rattle.submission.specs.Code.{operandIs, IsClaim};
 ghost use Rattle.derivation.specs.Register.{written};

@@ -9,15 +9,17 @@ use native.Mathlib.Omega.{arith}
 use lib.ListN.{length, getD, set, replicate, length-set, length-replicate}
 use lib.Seq.{getD-set-other}
 use borrow.Author.Tests.{eq-eqb, ne-eqb}
-use Rattle.term.specs.Table.{Rec, leaf, branch, Below}
+use Rattle.term.specs.Table.{Rec, leaf, branch}
+use Rattle.term.specs.Code.{Below}
 use Rattle.submission.specs.declared.Term.{Term}
 use Rattle.submission.specs.Code.{IsTerm}
 use Rattle.term.specs.Term.{Shape, atomic, compound, isAtomic}
-use Rattle.term.specs.Kind.{shapeOf, isUnary}
+use Rattle.term.specs.Kind.{shapeOf}
+use Rattle.term.specs.Code.{isUnary}
 use Rattle.submission.specs.Record.{terms, kindAt, xAt, yAt, nameAt, recordOf, recordAt}
 use Rattle.deduction.specs.declared.Parts.{Parts}
 use Rattle.deduction.specs.declared.Parts.the-variants.{Nothing, Both}
-use Rattle.deduction.specs.Deduce.{at, partsBuilt, built}
+use Rattle.deduction.specs.Computed.{at, partsBuilt, built}
 use Rattle.deduction.specs.Code.{TableRead, marksOf, partsOf, code, Memo, Decided, Unbuilt}
 use Rattle.deduction.proofs.theory.BuildTestLaws.{built-eq}
 use Rattle.deduction.proofs.MarkArrays.{facts, set-here, each-set, zeros, at-marks}

@@ -16,7 +16,8 @@ use Rattle.submission.specs.Record.{terms}
 use Rattle.base.specs.Code.{checkOf, answerOf}
 use Rattle.submission.specs.Check.{checks1to4}
 use Rattle.base.specs.declared.Answer.{Answer}
-use Rattle.deduction.specs.Deduce.{built, entryMarks, isDeducible, deducibleAnswer}
+use Rattle.deduction.specs.Computed.{built, entryMarks, isDeducible}
+use Rattle.deduction.specs.Deduce.{deducibleAnswer}
 use Rattle.deduction.specs.Code.{TableRead, marksOf, SameMarks, code, Decided, Exact}
 use Rattle.deduction.proofs.theory.Exactness.{same-start}
 use Rattle.deduction.proofs.MarkArrays.{facts}

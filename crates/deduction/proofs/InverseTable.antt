@@ -19,7 +19,7 @@ use Rattle.term.proofs.Reduce.{match-det}
 use Rattle.submission.specs.declared.Term.{Term}
 use Rattle.submission.specs.Code.{IsTerm}
 use Rattle.submission.specs.Record.{terms, areInverse}
-use Rattle.deduction.specs.Deduce.{built, opens}
+use Rattle.deduction.specs.Computed.{built, opens}
 use Rattle.deduction.specs.Code.{TableRead, orNone, Inverses}
 use Rattle.deduction.proofs.MarkArrays.{facts}
 

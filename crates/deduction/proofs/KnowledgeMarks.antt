@@ -8,7 +8,7 @@ use native.Mathlib.Omega.{arith}
 use lib.ListN.{length, getD, set, replicate, length-set, length-replicate}
 use Rattle.base.proofs.Says.{same-test}
 use Rattle.submission.specs.Record.{entries, entryAt}
-use Rattle.deduction.specs.Deduce.{entryMarks}
+use Rattle.deduction.specs.Computed.{entryMarks}
 use Rattle.deduction.specs.Code.{marksOf, SameMarks}
 use Rattle.deduction.proofs.theory.Exactness.{says-entry}
 use Rattle.deduction.proofs.MarkArrays.{each-set, zeros, says-mark}

@@ -8,7 +8,7 @@ use lib.ListN.{length, getD, set, replicate, List·getD-map}
 use lib.Seq.{getD-set-same, getD-set-other}
 use Rattle.base.proofs.Says.{Says, says-eqb}
 use Rattle.submission.proofs.theory.ListedTerms.{Listed, listed}
-use Rattle.deduction.specs.Deduce.{at}
+use Rattle.deduction.specs.Computed.{at}
 use Rattle.deduction.specs.Code.{TableRead, marksOf}
 
 pub facts : {s : List ℕ} → TableRead s → Listed s

@@ -20,7 +20,7 @@ use Rattle.submission.specs.Code.{IsTerm}
 use Rattle.submission.specs.Record.{terms, kindAt, xAt, yAt, nameAt, recordOf, recordAt}
 use Rattle.deduction.specs.declared.Opening.{Opening}
 use Rattle.deduction.specs.declared.Opening.the-variants.{Freely, With, Shut}
-use Rattle.deduction.specs.Deduce.{built, opens, gives}
+use Rattle.deduction.specs.Computed.{built, opens, gives}
 use Rattle.deduction.specs.Code.{TableRead, marksOf, Inverses, Unbuilt, given, OfTerms, OpensAs, opensBy, Settled}
 use Rattle.deduction.proofs.MarkArrays.{facts}
 use Rattle.deduction.proofs.InverseTable.{no-key, the-key}

@@ -1,25 +1,16 @@
 -- What the code's arrays mean.
-use mathlib.Core.Path.{_≡_}
-use mathlib.Core.Logic.{_⊎_}
-use mathlib.Core.Bool.{Bool, true, false, _&&_, _||_, cond}
-use mathlib.Core.List.{List, [], _∷_, map}
-use mathlib.Core.Option.{Option, none, some}
+use mathlib.Core.{Path._≡_, Logic._⊎_, Bool.Bool, Bool.true, Bool.false, Bool._&&_, Bool._||_, Bool.cond, List.List, List.[], List._∷_, List.map, Option.Option, Option.none, Option.some}
 use Prim.Native.Nat.{ℕ, suc, _≤_, _<_}
-use lib.Dec.{eqb}
-use lib.ListN.{length, getD, set}
-use Rattle.base.specs.First.{first}
-use Rattle.term.specs.Step.{Deducible}
-use Rattle.term.specs.Table.{Rec, leaf, branch}
-use Rattle.base.specs.Answer.{passes}
-use Rattle.base.specs.Bytes.{Bytes}
-use Rattle.submission.specs.Record.{terms, recordAt, term, areInverse}
-use Rattle.submission.specs.Check.{checks1to4}
+use lib.{Dec.eqb, ListN.length, ListN.getD, ListN.set}
+use Rattle.base.specs.{First.first, Answer.passes, Bytes.Bytes}
+use Rattle.term.specs.{Step.Deducible, Table.Rec, Table.leaf, Table.branch}
+use Rattle.submission.specs.{Record.terms, Record.recordAt, Record.term, Record.areInverse, Check.checks1to4}
 use Rattle.deduction.specs.declared.Parts.{Parts}
 use Rattle.deduction.specs.declared.Parts.the-variants.{Nothing, Both}
 use Rattle.deduction.specs.declared.Opening.{Opening}
 use Rattle.deduction.specs.declared.Opening.the-variants.{Freely, With, Shut}
 use Rattle.deduction.specs.declared.Round.{Round}
-use Rattle.deduction.specs.Deduce.{at, built, gives, isDeducible, Marked}
+use Rattle.deduction.specs.{Computed.at, Computed.built, Computed.gives, Computed.isDeducible, Deduce.Marked}
 
 -- bytes that passed checks 1 to 4
 pub record TableRead (s : List ℕ) : Type 0 where

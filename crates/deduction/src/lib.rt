@@ -13,7 +13,8 @@ ghost use lib.ListN.{length};
 ghost use Rattle.base.specs.First.{first};
 ghost use Rattle.submission.specs.Record.{terms, recordAt, areInverse};
 ghost use Rattle.base.specs.Code.{answerOf};
-ghost use Rattle.deduction.specs.Deduce.{entryMarks, isDeducible, deducibleAnswer};
+ghost use Rattle.deduction.specs.Computed.{entryMarks, isDeducible};
+ghost use Rattle.deduction.specs.Deduce.{deducibleAnswer};
 ghost use Rattle.deduction.specs.Code.{TableRead, marksOf, SameMarks, orNone, Inverses, partsOf, Memo, Decided, Unbuilt};
 ghost use Rattle.deduction.specs.Code.{OfTerms, OpensAs, opensBy, Settled, Exact, withMark, Swept, TakenApart};
 

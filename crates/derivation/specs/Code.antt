@@ -1,20 +1,14 @@
 -- What the code's records mean in document 01's terms.
-use mathlib.Core.Path.{_≡_}
-use mathlib.Core.Bool.{Bool, cond}
-use mathlib.Core.List.{List}
-use mathlib.Core.Option.{Option, none, some}
+use mathlib.Core.{Path._≡_, Bool.Bool, Bool.cond, List.List, Option.Option, Option.none, Option.some}
 use Prim.Native.Nat.{ℕ, _+_, _<_}
-use lib.Dec.{eqb}
-use lib.ListN.{getD, set}
-use Rattle.base.specs.Answer.{Check, failsIf, andThen}
+use lib.{Dec.eqb, ListN.getD, ListN.set}
+use Rattle.base.specs.{Answer.Check, Answer.failsIf, Answer.andThen, Code.checkOf}
 use Rattle.submission.specs.Record.{steps, ruleAt, pAt, qAt, conclusionAt}
-use Rattle.base.specs.Code.{checkOf}
 use Rattle.base.specs.declared.Stage.the-variants.{Passed}
 use Rattle.derivation.specs.declared.Step.{Step}
 use Rattle.derivation.specs.declared.Registers.{Registers}
 use Rattle.derivation.specs.declared.StepsAnswer.{StepsAnswer}
-use Rattle.derivation.specs.Register.{written, lowestAmong, every}
-use Rattle.derivation.specs.Step.{badStep, unfounded, checkSteps}
+use Rattle.derivation.specs.{Register.written, Register.lowestAmong, Register.every, Step.badStep, Step.unfounded, Step.checkSteps}
 
 -- r holds step i
 pub record IsStep (s : List ℕ) (i : ℕ) (r : Step) : Type 0 where

@@ -1,23 +1,12 @@
 -- What the code's structs and enums mean in document 01's terms.
 -- Values can be exponentially large as trees, so the machine holds them shared: a table of nodes, no two equal, and registers with their numbers.
-use mathlib.Core.Path.{_≡_}
-use mathlib.Core.Bool.{Bool, _&&_, _||_, cond}
-use mathlib.Core.List.{List, [], _∷_, _++_}
-use mathlib.Core.Option.{Option, none, some}
-use Prim.Native.Nat.{ℕ, _+_, _-_, _≤_, _<_}
-use lib.Dec.{eqb, ltb, leb}
-use lib.ListN.{length, getD, set}
-use Rattle.base.specs.First.{first}
-use Rattle.base.specs.Grow.{listed}
-use Rattle.term.specs.Term.{Kind, public, private, left, right, part, atomic, Term}
-use Rattle.term.specs.Kind.{shapeOf, kindOf}
 use Rattle.term.specs.Term as words
-use Rattle.term.specs.Table.{Rec, leaf, branch, decoded, void, Table}
-use Rattle.term.specs.Rule.{rules, headOf, ruleOf}
-use Rattle.base.specs.Answer.{passes}
-use Rattle.base.specs.Bytes.{Bytes}
-use Rattle.submission.specs.Record.{terms, entries, entryAt, term}
-use Rattle.submission.specs.Check.{checks1to5}
+use mathlib.Core.{Path._≡_, Bool.Bool, Bool._&&_, Bool._||_, Bool.cond, List.List, List.[], List._∷_, List._++_, Option.Option, Option.none, Option.some}
+use Prim.Native.Nat.{ℕ, _+_, _-_, _≤_, _<_}
+use lib.{Dec.eqb, Dec.ltb, Dec.leb, ListN.length, ListN.getD, ListN.set}
+use Rattle.base.specs.{First.first, Grow.listed, Answer.passes, Bytes.Bytes}
+use Rattle.term.specs.{Term.Kind, Term.public, Term.private, Term.left, Term.right, Term.part, Term.atomic, Term.Term, Kind.shapeOf, Kind.kindOf, Table.Rec, Table.leaf, Table.branch, Table.decoded, Table.void, Code.Table, Code.ruleOf, Rule.rules, Rule.headOf}
+use Rattle.submission.specs.{Record.terms, Record.entries, Record.entryAt, Record.term, Check.checks1to5}
 use Rattle.machine.specs.declared.Node.{Node}
 use Rattle.machine.specs.declared.Machine.{Machine}
 use Rattle.machine.specs.declared.Found.{Found}

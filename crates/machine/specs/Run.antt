@@ -3,7 +3,7 @@ use mathlib.Core.{Bool.Bool, Bool.false, Bool.cond, List.List, List.[], List._鈭
 use Prim.Native.Nat.{鈩晑
 use lib.ListN.{getD}
 use Rattle路base.specs.{Grow.grow, Grow.listed, Answer.Answer, Answer.done, Answer.andThen, Answer.answered, Bytes.byte}
-use Rattle路term.specs.{Term.Kind, Term.plain, Term.asymmetric, Term.Shape, Term.atomic, Term.compound, Term.Term, Term.atom, Term.term?, Term.test, Kind.shapeOf, Table.void, Reduce.op, Reduce.match?, Rule.headOf, Relation.Relation, Relation.equal, Relation.inverse}
+use Rattle路term.specs.{Term.Kind, Term.plain, Term.asymmetric, Term.Shape, Term.atomic, Term.compound, Term.Term, Term.atom, Term.term?, Term.test, Kind.shapeOf, Table.void, Reduce.op, Computed.match?, Rule.headOf, Relation.Relation, Relation.equal, Relation.inverse}
 use Rattle路submission.specs.{Record.entries, Record.entryAt, Record.guess, Record.kindAt, Record.term, Check.checks1to5}
 use Rattle路program.specs.{Tests.relationOf, Program.Instruction, Program.Test, Program.instructionAt, Program.testAt, Program.operand, Program.check13}
 

@@ -8,7 +8,8 @@ use lib.Dec.{ltb}
 use borrow.Author.Tests.{ltb-false}
 use Rattle.base.proofs.Says.{or-false, none-fails}
 use Rattle.base.specs.Answer.{passes}
-use Rattle.submission.specs.Contents.{count, least, most, badCount, check1, check2, Limited}
+use Rattle.submission.specs.Contents.{count, least, most, badCount, check1, check2}
+use Rattle.submission.specs.Code.{Limited}
 use Rattle.submission.specs.Check.{check5, checks1to4, checks1to5}
 use Rattle.base.proofs.StageLaws.{bytes, stage-passes}
 use Rattle.base.proofs.AnswerLaws.{at-passes, then-passes}

@@ -11,7 +11,8 @@ use lib.Seq.{getD-set-same, getD-set-other}
 use borrow.Author.Count.{below-more}
 use borrow.Author.Tests.{eq-eqb, ne-eqb, lt-ltb, le-ltb}
 use Rattle.term.specs.Term.{Shape, atomic, compound, takes, isAtomic}
-use Rattle.term.specs.Kind.{shapeOf, isUnary, secondOf}
+use Rattle.term.specs.Kind.{shapeOf}
+use Rattle.term.specs.Code.{isUnary, secondOf}
 use Rattle.submission.specs.declared.Term.{Term}
 use Rattle.submission.specs.Record.{terms, kindAt, xAt, yAt}
 use Rattle.submission.specs.Check.{shapeFits, sameRecord}

@@ -1,6 +1,5 @@
 -- What the code's records mean in document 01's terms.
-use mathlib.Core.Path.{_≡_}
-use mathlib.Core.List.{List}
+use mathlib.Core.{Path._≡_, List.List, Option.Option, Option.none, Option.some}
 use Prim.Native.Nat.{ℕ, _≤_, _<_}
 use lib.ListN.{length, getD}
 use Rattle.submission.specs.declared.Term.{Term}
@@ -17,12 +16,9 @@ use Rattle.submission.specs.declared.Operand.the-variants.{VerifyingResu
 use Rattle.submission.specs.declared.Row.{Row as RowRead}
 use Rattle.submission.specs.declared.Reading.{Reading}
 use Rattle.submission.specs.declared.Reading.the-variants.{Good, Refused}
-use Rattle.submission.specs.Way.{Way, another-step, at-start, inverse-key, wayOf, Range, step-number, term-number, zero-only, Operand, verifying-result, companion-result, lowest-conclusion, lowest-companion, Row}
+use Rattle.submission.specs.{Way.Way, Way.another-step, Way.at-start, Way.inverse-key, Way.wayOf, Way.Range, Way.step-number, Way.term-number, Way.zero-only, Way.Operand, Way.verifying-result, Way.companion-result, Way.lowest-conclusion, Way.lowest-companion, Way.Row, Contents.start, Contents.count, Record.terms, Record.kindAt, Record.xAt, Record.yAt, Record.guess, Record.verifying, Record.wayAt, Record.companion}
 use Rattle.term.specs.Code.{relationIs}
 use Rattle.base.specs.Answer.{Check, passes, fails}
-use mathlib.Core.Option.{Option, none, some}
-use Rattle.submission.specs.Contents.{start}
-use Rattle.submission.specs.Record.{terms, kindAt, xAt, yAt, guess, verifying, wayAt, companion}
 
 -- r is where body i starts
 pub record Starts (s : List ℕ) (i r : ℕ) : Type 0 where
@@ -96,3 +92,9 @@ pub record LastBytes (s : List ℕ) (i : ℕ) (l : List ℕ) : Type 0 where
   pub within : i ≤ terms s
   pub long : length l ≡ 256
   pub is : (k : ℕ) → k < i → getD l k 0 ≡ yAt s k
+
+-- what the limits say of the counts that programs and registers are made of
+pub record Limited (s : List ℕ) : Type 0 where
+  pub terms : count s 0 ≤ 250
+  pub entries : count s 1 ≤ 64
+  pub steps : count s 2 ≤ 128

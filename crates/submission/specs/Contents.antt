@@ -1,6 +1,6 @@
 -- The table of contents and the counts: document 01, 'The submission'; checks 1 and 2.
 use mathlib.Core.{Bool.Bool, Bool._||_, Bool.not, List.List, List.[], List._∷_}
-use Prim.Native.Nat.{ℕ, zero, suc, _+_, _*_, _≤_, _<_}
+use Prim.Native.Nat.{ℕ, zero, suc, _+_, _*_}
 use lib.{Dec.eqb, Dec.ltb, ListN.length, ListN.getD}
 use Rattle.base.specs.{First.first, First.any, Bytes.byte, Bytes.word, Answer.Check, Answer.failsAt, Answer.failsIf}
 
@@ -47,9 +47,3 @@ badCount s i = ltb (count s i) (least i) || ltb (most i) (count s i)
 
 abbrev pub check2 : List ℕ → Check
 check2 s = failsAt 2 (first (badCount s) 4)
-
--- what the limits say of the counts that programs and registers are made of
-pub record Limited (s : List ℕ) : Type 0 where
-  pub terms : count s 0 ≤ 250
-  pub entries : count s 1 ≤ 64
-  pub steps : count s 2 ≤ 128

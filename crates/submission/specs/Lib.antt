@@ -1,6 +1,6 @@
 pub mod Check
 pub mod Code
+pub mod Computed
 pub mod Contents
-pub mod Fresh
 pub mod Record
 pub mod Way

@@ -2,7 +2,7 @@
 use mathlib.Core.Logic.{_⊎_}
 use Rattle.base.proofs.Says.{Says, says-or}
 use Rattle.term.specs.Term.{Term, atom, node, term?, test, Part}
-use Rattle.term.specs.Fresh.{isPart}
+use Rattle.term.specs.Computed.{isPart}
 use Rattle.term.proofs.Reduce.{says-test}
 
 pub says-part : (x t : Term) → Says (isPart x t) (Part x t)

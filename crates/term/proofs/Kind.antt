@@ -11,8 +11,10 @@ use borrow.Author.Tests.{ne-eqb}
 use Rattle.base.specs.Grow.{grow, listed}
 use Rattle.base.proofs.Says.{Says, says-eqb}
 use Rattle.term.specs.Term.{plain, public, private, symmetric, asymmetric, Form, pair, encryption, Second, absent, anything, keyFor, make, single, takes, Shape, atomic, compound, shape?, isAtomic, isKeyFor}
-use Rattle.term.specs.Kind.{kinds, shapeOf, kindOf, isUnary, builderOf, secondOf, inverseKinds}
-use Rattle.term.specs.Rule.{rules, headOf, ruleOf, hasOne}
+use Rattle.term.specs.Kind.{kinds, shapeOf, kindOf, inverseKinds}
+use Rattle.term.specs.Code.{isUnary, builderOf, secondOf}
+use Rattle.term.specs.Rule.{rules, headOf, hasOne}
+use Rattle.term.specs.Code.{ruleOf}
 use Rattle.term.proofs.Numbered.{Arms, choice, allBelow, choice-is, entry-past, entry-place}
 use Rattle.term.proofs.Rule.{head-rule, head-past, rule-below}
 

@@ -5,8 +5,11 @@ use mathlib.Core.Bool.{false≢true}
 use native.Mathlib.Omega.{arith}
 use Prim.Native.Nat.{ℕ}
 use Rattle.base.proofs.Says.{Says}
-use Rattle.term.specs.Term.{Kind, plain, public, private, Cipher, symmetric, asymmetric, Side, left, right, Form, pair, encryption, Head, make, part, decrypt, Term, atom, node, test, term?, head?, isKey, Fits, turn, Match, Operands, builds, Message, Part}
-use Rattle.term.specs.Reduce.{match?, cancelled, paired, pick, parted, made, op}
+use Rattle.term.specs.Term.{Kind, plain, public, private, Cipher, symmetric, asymmetric, Side, left, right, Form, pair, encryption, Head, make, part, decrypt, Term, atom, node, test, term?, head?, isKey, Fits, turn, Match, Operands, Part}
+use Rattle.term.specs.Code.{builds, Message}
+use Rattle.term.specs.Computed.{match?}
+use Rattle.term.specs.Reduce.{cancelled, paired, parted, made, op}
+use Rattle.term.specs.Term.{pick}
 use Rattle.term.specs.Step.{Step}
 
 -- a decision as a test says what was decided

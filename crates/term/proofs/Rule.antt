@@ -13,7 +13,9 @@ use Rattle.base.specs.Grow.{grow, listed}
 use Rattle.base.proofs.Order.{lt-or-ge}
 use Rattle.base.proofs.Says.{Says}
 use Rattle.term.specs.Term.{symmetric, asymmetric, left, right, pair, encryption, Head, make, part, decrypt, head?, single, test}
-use Rattle.term.specs.Rule.{table, rules, isRule, heads, wordOf, headOf, ruleOf, hasOne, isHead, takesApart, ruleTakesApart}
+use Rattle.term.specs.Rule.{table, rules, isRule, heads, wordOf, headOf, hasOne}
+use Rattle.term.specs.Code.{ruleOf}
+use Rattle.term.specs.Computed.{isHead, takesApart, ruleTakesApart}
 use Rattle.term.specs.Step.{takenBy, TakesApart}
 use Rattle.term.proofs.Reduce.{says-test}
 use Rattle.term.proofs.Numbered.{same-below, is, Arms, choice, allBelow, choice-is}

@@ -9,7 +9,8 @@ use native.Mathlib.Omega.{arith}
 use lib.ListN.{getD}
 use Rattle.base.proofs.Grow.{grow-kept, grow-at}
 use Rattle.term.specs.Term.{Kind, Head, Term, atom, node}
-use Rattle.term.specs.Table.{Rec, leaf, branch, message, void, decoded, Below, Table}
+use Rattle.term.specs.Table.{Rec, leaf, branch, message, void, decoded}
+use Rattle.term.specs.Code.{Below, Table}
 
 -- ---- equal terms have equal numbers
 module _ {rec : ℕ → Rec} {N : ℕ} {T : ℕ → Term} (t : Table rec N T) where

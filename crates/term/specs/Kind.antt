@@ -1,8 +1,8 @@
 -- The kinds' numbers: document 01, 'The submission', Terms. This is the one place that lists them.
-use mathlib.Core.{Bool.Bool, Bool.false, Bool._&&_, Bool._||_, List.List, List.[], List._∷_, Option.Option, Option.none, Option.some}
+use mathlib.Core.{Bool.Bool, Bool._&&_, Bool._||_, List.List, List.[], List._∷_, Option.Option, Option.none}
 use Prim.Native.Nat.{ℕ, zero, suc}
 use lib.Dec.{eqb}
-use Rattle.term.specs.{Term.plain, Term.public, Term.private, Term.symmetric, Term.asymmetric, Term.pair, Term.encryption, Term.Second, Term.absent, Term.second, Term.unary, Term.make, Term.Shape, Term.atomic, Term.compound, Term.shape?, Numbered.entry, Numbered.place, Rule.rules, Rule.ruleOf}
+use Rattle.term.specs.{Term.plain, Term.public, Term.private, Term.symmetric, Term.asymmetric, Term.pair, Term.encryption, Term.Shape, Term.atomic, Term.compound, Term.shape?, Numbered.entry, Numbered.place}
 
 -- "Kinds 1 plain atom, 2 public key, 3 private key .. Kind 4 pair(x, y); 5 enc(x, y) ..; 6 enca(x, y)"
 abbrev pub kinds : List Shape
@@ -23,24 +23,6 @@ shapeOf (suc n) = entry kinds n
 -- and back
 abbrev pub kindOf : Shape → ℕ
 kindOf z = suc (place shape? kinds z)
-
--- a record of this shape has one operand
-abbrev pub isUnary : Option Shape → Bool
-isUnary none = false
-isUnary (some (atomic κ)) = false
-isUnary (some (compound f)) = unary f
-
--- the rule that builds a term of this shape; `rules`, which is none, where there is no such rule
-abbrev pub builderOf : Option Shape → ℕ
-builderOf none = rules
-builderOf (some (atomic κ)) = rules
-builderOf (some (compound f)) = ruleOf (make f)
-
--- the second operand of a record of this shape
-abbrev pub secondOf : Option Shape → Second
-secondOf none = absent
-secondOf (some (atomic κ)) = absent
-secondOf (some (compound f)) = second f
 
 -- "Keys of kinds 2 and 3 with one name are each other's inverse", of kinds
 abbrev pub inverseKinds : ℕ → ℕ → Bool

@@ -1,4 +1,5 @@
 pub mod Code
+pub mod Computed
 pub mod Fresh
 pub mod Kind
 pub mod Numbered

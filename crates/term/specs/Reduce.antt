@@ -1,25 +1,7 @@
 -- The machine's step over terms: document 01, 'Machine'.
 -- "Each rule forms a term with its own head .. unless one of these reductions applies to it."
-use mathlib.Core.{Path._≡_, Logic.ite, Logic.Dec·and}
-use Rattle.term.specs.Term.{plain, public, private, Cipher, symmetric, asymmetric, Side, left, right, Form, pair, encryption, Head, make, part, decrypt, Term, atom, node, head?, term?, isKey, Fits, turn, Match}
-
-unfoldable pub isKey? : (t : Term) → Dec (isKey t)
-isKey? (atom plain n) = no (λ x. x)
-isKey? (atom public n) = yes tt
-isKey? (atom private n) = yes tt
-isKey? (node h a b) = no (λ x. x)
-
-unfoldable pub fits? : (c : Cipher) (k : Term) → Dec (Fits c k)
-fits? symmetric k = yes tt
-fits? asymmetric k = isKey? k
-
-unfoldable pub match? : (c : Cipher) (k j : Term) → Dec (Match c k j)
-match? c k j = go (fits? c k) (term? j (turn c k))
-  where
-    go : Dec (Fits c k) → Dec (j ≡ turn c k) → Dec (Match c k j)
-    go (yes f) (yes e) = yes (record { fits = f; turned = e })
-    go (yes f) (no e) = no (λ m. e (m .turned))
-    go (no f) e = no (λ m. f (m .fits))
+use mathlib.Core.Logic.{ite, Dec·and}
+use Rattle.term.specs.{Term.Cipher, Term.Side, Term.left, Term.right, Term.Form, Term.pair, Term.encryption, Term.Head, Term.make, Term.part, Term.decrypt, Term.Term, Term.atom, Term.node, Term.head?, Term.term?, Term.pick, Computed.match?}
 
 -- two heads that cancel: the outer head over a term with the inner head gives that term's first operand where the keys match
 unfoldable pub cancelled : Cipher → Head → Head → Term → Term → Term
@@ -32,10 +14,6 @@ paired (atom κ n) b = node (make pair) (atom κ n) b
 paired (node h x x′) (atom κ n) = node (make pair) (node h x x′) (atom κ n)
 paired (node h x x′) (node h′ y y′) =
     ite (Dec·and (head? h (part left)) (Dec·and (head? h′ (part right)) (term? y x))) x (node (make pair) (node h x x′) (node h′ y y′))
-
-abbrev pub pick : {A : Type 0} → Side → A → A → A
-pick left x y = x
-pick right x y = y
 
 -- "fst and snd of a pair give the part"
 unfoldable pub parted : Side → Term → Term → Term

@@ -1,8 +1,8 @@
 -- The rules' numbers and words: document 01, the table of 'Dolev-Yao steps'. This is the one place that lists them.
-use mathlib.Core.{Bool.Bool, Bool.false, Bool._&&_, Option.Option, Option.none, Option.some, List.List, List.[], List._∷_, List.map}
+use mathlib.Core.{Bool.Bool, List.List, List.[], List._∷_, List.map}
 use Prim.Native.Nat.{ℕ}
 use lib.{Dec.ltb, ListN.length, ListN.getD}
-use Rattle.term.specs.{Term.symmetric, Term.asymmetric, Term.left, Term.right, Term.pair, Term.encryption, Term.Head, Term.make, Term.part, Term.decrypt, Term.head?, Term.single, Term.test, Step.takenBy, Numbered.place}
+use Rattle.term.specs.Term.{symmetric, asymmetric, left, right, pair, encryption, Head, make, part, decrypt, single}
 
 pub record Rule : Type 0 where
   pub head : Head
@@ -36,25 +36,9 @@ heads = map (λ r. r .head) table
 unfoldable pub headOf : ℕ → Head
 headOf n = getD heads n (decrypt asymmetric)
 
--- the number of a head's rule
-abbrev pub ruleOf : Head → ℕ
-ruleOf h = place head? heads h
-
 unfoldable pub wordOf : ℕ → List ℕ
 wordOf n = getD (map (λ r. r .word) table) n []
 
 -- a rule with one operand has one premise and one register
 unfoldable pub hasOne : ℕ → Bool
 hasOne n = single (headOf n)
-
--- the head h takes apart what the head b builds, computed
-abbrev pub isHead : Head → Option Head → Bool
-isHead b none = false
-isHead b (some h) = test (head? h b)
-
-abbrev pub takesApart : Head → Head → Bool
-takesApart h b = isHead b (takenBy h)
-
--- the rule t takes apart what the rule b builds; a number that is no rule does nothing
-unfoldable pub ruleTakesApart : ℕ → ℕ → Bool
-ruleTakesApart t b = isRule t && (isRule b && takesApart (headOf t) (headOf b))

@@ -1,6 +1,6 @@
 -- Dolev-Yao steps over all terms, and finite lists of them: document 01, 'Dolev-Yao steps'.
 use mathlib.Core.{Path._≡_, Logic._⊎_, List.List, List.[], List._∷_, Option.Option, Option.none, Option.some}
-use Rattle.term.specs.{Term.pair, Term.encryption, Term.Head, Term.make, Term.part, Term.decrypt, Term.Term, Term.node, Term.Operands, Term.Match, Reduce.pick}
+use Rattle.term.specs.Term.{pair, encryption, Head, make, part, decrypt, Term, node, Operands, Match, pick}
 
 -- The table's rows: the rule h concludes t from the premises p and q. The one premise of fst and snd counts as both.
 abbrev pub Step : Head → Term → Term → Term → Type 0

@@ -1,7 +1,7 @@
 -- A table of records: each is an atom, or a head over the numbers of two earlier records.
 -- The submission's terms are such a table, and so are the terms that the machine holds.
-use mathlib.Core.{Path._≡_, List.List, List.[]}
-use Prim.Native.Nat.{ℕ, _<_}
+use mathlib.Core.List.{List, []}
+use Prim.Native.Nat.{ℕ}
 use lib.ListN.{getD}
 use Rattle.base.specs.Grow.{grow}
 use Rattle.term.specs.Term.{Kind, plain, Head, Term, atom, node}
@@ -22,14 +22,3 @@ void = atom plain 0
 -- the terms of the first n records, each read over those before it
 unfoldable pub decoded : (ℕ → Rec) → ℕ → List Term
 decoded r n = grow [] (λ ts i. message (λ m. getD ts m void) (r i)) n
-
--- the parts of a record are below n
-abbrev pub Below : ℕ → Rec → Type 0
-Below n (leaf κ m) = Unit {0}
-Below n (branch h x y) = (x < n) × (y < n)
-
--- the first N records of rec have the terms T
-pub record Table (rec : ℕ → Rec) (N : ℕ) (T : ℕ → Term) : Type 0 where
-  pub reads : (n : ℕ) → n < N → T n ≡ message T (rec n)
-  pub earlier : (n : ℕ) → n < N → Below n (rec n)
-  pub distinct : (m n : ℕ) → m < N → n < N → rec m ≡ rec n → m ≡ n

@@ -18,6 +18,11 @@ pub data Side : Type 0 where
   left right : Side
   deriving Discrete as Side-discrete
 
+-- one of the two
+abbrev pub pick : {A : Type 0} → Side → A → A → A
+pick left x y = x
+pick right x y = y
+
 -- what a listed compound term is made as: pair(x, y); enc(x, y) and enca(x, y)
 pub data Form : Type 0 where
   pair : Form
@@ -150,17 +155,6 @@ OperandsAs (keyFor c) a b = isKeyFor c (shape b) ≡ true
 
 abbrev pub Operands : Form → Term → Term → Type 0
 Operands f a b = OperandsAs (second f) a b
-
--- the heads that build a listed term from its operands
-abbrev pub builds : Head → Term → Term → Type 0
-builds (make f) a b = Operands f a b
-builds (part s) a b = ⊥
-builds (decrypt c) a b = ⊥
-
--- a term that records can list: forms over such terms, and no other head
-abbrev pub Message : Term → Type 0
-Message (atom κ n) = Unit {0}
-Message (node h a b) = builds h a b × Message a × Message b
 
 -- "Part .. means the message itself or anything it is made from at any depth, keys included": x is a part of t
 abbrev pub Part : Term → Term → Type 0

@@ -10,9 +10,11 @@ use Rattle.base.proofs.Map.{map-at}
 use Rattle.base.specs.First.{first, firstFrom, any}
 use Rattle.base.specs.Grow.{grow}
 use Rattle.term.specs.Table.{decoded}
-use Rattle.term.specs.Reduce.{op, cancelled, parted, paired, match?, fits?, isKey?}
+use Rattle.term.specs.Reduce.{op, cancelled, parted, paired}
+use Rattle.term.specs.Computed.{match?, fits?, isKey?}
 use Rattle.term.specs.Kind.{shapeOf}
-use Rattle.term.specs.Rule.{headOf, wordOf, hasOne, ruleTakesApart}
+use Rattle.term.specs.Rule.{headOf, wordOf, hasOne}
+use Rattle.term.specs.Computed.{ruleTakesApart}
 use Rattle.base.specs.Answer.{Answer, done, refused}
 use Rattle.submission.specs.Contents.{start, badContents}
 use Rattle.submission.specs.Record.{recordAt, term, areInverse}
@@ -20,12 +22,13 @@ use Rattle.submission.specs.Way.{wayOf}
 use Rattle.submission.specs.Check.{badTerm, badKnowledge, goodClaim, checks1to4, checks1to5}
 use Rattle.derivation.specs.Register.{registerTerm}
 use Rattle.derivation.specs.Step.{secondAt, badStep, unfounded, checkSteps}
-use Rattle.deduction.specs.Deduce.{builtWithin, round, rounds, entryMarks, isDeducible}
+use Rattle.deduction.specs.Computed.{builtWithin, round, rounds, entryMarks, isDeducible}
 use Rattle.program.specs.Tests.{relationOf}
 use Rattle.program.specs.Program.{instructionBytes, bytesOf, instructionAt, testAt, badInstruction, badTest, badProgram}
 use Rattle.machine.specs.Run.{guessed, initial, executed, registers, signals, signal, runAnswer}
 use Rattle.text.specs.Text.{digits, stepLine, testLine, stepLines, answerText}
-use Rattle.conditions.specs.Check.{reachable, samePremises, undoesStep, undone, checks1to10, checkAnswer}
+use Rattle.conditions.specs.Computed.{reachable, samePremises, undoesStep, undone}
+use Rattle.conditions.specs.Check.{checks1to10, checkAnswer}
 use Rattle.conditions.specs.Page.{lowest, instruction, claimTest, program, pageChecked}
 use Rattle.checker.specs.Text.{verdictText}
 

@@ -11,7 +11,7 @@ use lib.ListN.{length, take}
 use Rattle.base.proofs.Says.{says-eqb, says-ltb, says-and, says-not, says-true}
 use Rattle.base.specs.First.{first, firstFrom, any}
 use Rattle.base.specs.Grow.{grow}
-use Rattle.term.specs.Fresh.{isPart}
+use Rattle.term.specs.Computed.{isPart}
 use Rattle.term.specs.Table.{decoded}
 use Rattle.base.specs.Answer.{done}
 use Rattle.base.specs.Bytes.{Bytes}
@@ -19,7 +19,7 @@ use Rattle.submission.specs.Contents.{start}
 use Rattle.submission.specs.Record.{guess, nameAt, term, recordAt}
 use Rattle.term.specs.Kind.{shapeOf}
 use Rattle.program.specs.Program.{programLength}
-use Rattle.submission.specs.Fresh.{isKnownPart, isFresh}
+use Rattle.submission.specs.Computed.{isKnownPart, isFresh}
 use Rattle.submission.proofs.theory.FreshLaws.{says-fresh}
 use Rattle.machine.specs.Run.{guessed, runAnswer}
 use Rattle.conditions.specs.Page.{pageChecked}

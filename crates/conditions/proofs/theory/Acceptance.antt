@@ -16,7 +16,8 @@ use Rattle.submission.proofs.theory.ListedTerms.{Claimed, claimed}
 use Rattle.derivation.specs.Step.{unfounded, checkSteps}
 use Rattle.derivation.proofs.theory.StepMeaning.{SoundStep, sound, steps-pass}
 use Rattle.program.specs.Program.{programLength}
-use Rattle.conditions.specs.Check.{reachable, check8, hasSecondWay, check9, undone, check10, check11, checks1to10, checkAnswer}
+use Rattle.conditions.specs.Computed.{reachable, hasSecondWay, undone}
+use Rattle.conditions.specs.Check.{check8, check9, check10, check11, checks1to10, checkAnswer}
 use Rattle.conditions.specs.Condition.{WellFormed, FiveConditions}
 use Rattle.conditions.specs.Demand.{Demand2}
 use Rattle.conditions.proofs.theory.ConditionsMeant.{founded-terms, reachable-iff, second-way-iff, undone-iff}

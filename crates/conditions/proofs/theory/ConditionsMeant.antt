@@ -20,9 +20,9 @@ use Rattle.derivation.specs.Register.{isKnown}
 use Rattle.derivation.specs.Step.{secondAt, unfounded}
 use Rattle.derivation.proofs.theory.RegisterTerms.{KnownNumber, says-known}
 use Rattle.derivation.proofs.theory.StepMeaning.{SoundStep, founded-iff}
-use Rattle.deduction.specs.Deduce.{entryMarks, isDeducible}
+use Rattle.deduction.specs.Computed.{entryMarks, isDeducible}
 use Rattle.deduction.proofs.theory.Exactness.{deducible-iff}
-use Rattle.conditions.specs.Check.{reachable, isPremise, samePremises, hasSecondWay, undoesStep, companionUndoes, undone}
+use Rattle.conditions.specs.Computed.{reachable, isPremise, samePremises, hasSecondWay, undoesStep, companionUndoes, undone}
 use Rattle.conditions.specs.Condition.{rule, firstPremise, secondPremise, concluded, Known, Premise, Differs, SecondWay, UndoesNone}
 
 -- before step 0 the knowledge and the guess are known

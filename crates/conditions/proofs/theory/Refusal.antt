@@ -19,7 +19,8 @@ use Rattle.derivation.specs.Step.{badStep, unfounded, stepFault, checkSteps}
 use Rattle.deduction.specs.Deduce.{deducibleAnswer}
 use Rattle.program.specs.Program.{bytesOf, programLength, badProgram, check13}
 use Rattle.machine.specs.Run.{signal, runAnswer}
-use Rattle.conditions.specs.Check.{reachable, check8, hasSecondWay, check9, undone, check10, check11, checks1to10, checkAnswer}
+use Rattle.conditions.specs.Computed.{reachable, hasSecondWay, undone}
+use Rattle.conditions.specs.Check.{check8, check9, check10, check11, checks1to10, checkAnswer}
 use Rattle.conditions.specs.Page.{program, pageChecked}
 
 -- ---- the checks' numbers, for whatever holds of 1 to n

@@ -33,7 +33,7 @@ use Rattle.program.specs.Program.{bytesOf, badInstruction, badTest, badProgram}
 use Rattle.machine.specs.Run.{atomKind, guessed, holds as relates, signals, signal}
 use Rattle.program.proofs.theory.Bytes.{byte-count, test-back, program-passes}
 use Rattle.machine.proofs.theory.RunRegisters.{register-entry, register-guess, says-equal, says-inverse}
-use Rattle.conditions.specs.Check.{hasSecondWay}
+use Rattle.conditions.specs.Computed.{hasSecondWay}
 use Rattle.conditions.specs.Condition.{WellFormed, FiveConditions, Differs, SecondWay, UndoesNone, rule, firstPremise, secondPremise, concluded}
 use Rattle.conditions.specs.Page.{lowest, instruction, program, testFor, claimTest}
 use Rattle.conditions.specs.Wrong.{WrongGuess}

@@ -23,7 +23,8 @@ use Rattle.term.proofs.Table.{branch-of, node-of, part-below}
 use Rattle.term.proofs.Marks.{rounds-keep, rounds-sound, rounds-closed}
 use Rattle.submission.specs.Record.{terms, entries, entryAt, recordAt, areInverse, term, InKnowledge}
 use Rattle.submission.proofs.theory.ListedTerms.{Listed}
-use Rattle.deduction.specs.Deduce.{at, built, opens, gives, taken, round, isEntry, entryMarks, rounds, isDeducible, Marked}
+use Rattle.deduction.specs.Computed.{at, built, opens, gives, taken, round, isEntry, entryMarks, rounds, isDeducible}
+use Rattle.deduction.specs.Deduce.{Marked}
 use Rattle.deduction.specs.Code.{SameMarks}
 use Rattle.deduction.proofs.theory.BuildTestLaws.{same-built, says-built}
 

@@ -7,9 +7,10 @@ use mathlib.Core.Option.{Option, none, some}
 use Prim.Native.Nat.{ℕ, _<_}
 use native.Mathlib.Omega.{arith}
 use Rattle.base.proofs.Says.{says-true, says-eqb, says-ltb, says-and, not-not-false, or-false, none-fails}
-use Rattle.term.specs.Term.{Cipher, symmetric, asymmetric, Side, left, right, Form, pair, encryption, unary, Head, make, part, decrypt, node, single, Match, compound, Message}
+use Rattle.term.specs.Term.{Cipher, symmetric, asymmetric, Side, left, right, Form, pair, encryption, unary, Head, make, part, decrypt, node, single, Match, compound}
+use Rattle.term.specs.Code.{Message}
 use Rattle.term.specs.Kind.{kindOf}
-use Rattle.term.specs.Reduce.{pick}
+use Rattle.term.specs.Term.{pick}
 use Rattle.term.specs.Step.{Step}
 use Rattle.term.specs.Rule.{rules, headOf, hasOne}
 use Rattle.base.specs.Answer.{passes}

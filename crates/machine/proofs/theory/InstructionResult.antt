@@ -8,8 +8,10 @@ use lib.ListN.{getD}
 use Rattle.base.proofs.Grow.{listed-at}
 use Rattle.term.specs.Term.{Side, pair, encryption, Head, make, part, decrypt, Term}
 use Rattle.term.specs.Table.{void}
-use Rattle.term.specs.Reduce.{op, cancelled, pick}
-use Rattle.term.specs.Rule.{rules, headOf, ruleOf}
+use Rattle.term.specs.Reduce.{op, cancelled}
+use Rattle.term.specs.Term.{pick}
+use Rattle.term.specs.Rule.{rules, headOf}
+use Rattle.term.specs.Code.{ruleOf}
 use Rattle.term.proofs.Numbered.{Apart}
 use Rattle.term.proofs.Rule.{head-rule}
 use Rattle.machine.specs.declared.Machine.{Machine}

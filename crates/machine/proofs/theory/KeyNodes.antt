@@ -8,7 +8,7 @@ use borrow.Author.Tests.{eq-eqb, eqb-true}
 use Rattle.base.proofs.Says.{Says, says-eqb, says-and, says-or, same-test}
 use Rattle.term.specs.Term as words
 use Rattle.term.specs.Term.{Kind, plain, public, private, otherKind, symmetric, asymmetric, Term, atom, node, inverse, isKey, test, term?, Match}
-use Rattle.term.specs.Reduce.{match?}
+use Rattle.term.specs.Computed.{match?}
 use Rattle.term.proofs.Reduce.{says-test}
 use Rattle.term.proofs.Table.{decode-inj}
 use Rattle.machine.specs.declared.Node.{Node}

@@ -6,7 +6,7 @@ use borrow.Author.Tests.{lt-ltb}
 use Rattle.term.specs.Term.{Kind, plain, public, private, Head, Term, atom, node, atomic}
 use Rattle.term.specs.Kind.{shapeOf}
 use Rattle.term.specs.Table.{Rec, leaf, branch, message}
-use Rattle.term.specs.Rule.{ruleOf}
+use Rattle.term.specs.Code.{ruleOf}
 use Rattle.term.proofs.Rule.{head-rule, rule-below}
 use Rattle.term.proofs.Table.{part-below, node-of, branch-of, leaf-of}
 use Rattle.machine.specs.declared.Machine.{Machine}

@@ -11,9 +11,13 @@ use Rattle.base.specs.First.{first}
 use Rattle.base.specs.Grow.{grow}
 use Rattle.base.proofs.Says.{Says, says-true, says-eqb, says-and, denies}
 use Rattle.term.specs.Term.{Cipher, symmetric, asymmetric, Side, left, right, pair, encryption, Head, make, part, decrypt, Term, atom, node, head?, term?, test, Match}
-use Rattle.term.specs.Table.{Rec, leaf, branch, message, Below}
-use Rattle.term.specs.Reduce.{match?, cancelled, paired, parted, made, pick, op}
-use Rattle.term.specs.Rule.{rules, headOf, ruleOf}
+use Rattle.term.specs.Table.{Rec, leaf, branch, message}
+use Rattle.term.specs.Code.{Below}
+use Rattle.term.specs.Computed.{match?}
+use Rattle.term.specs.Reduce.{cancelled, paired, parted, made, op}
+use Rattle.term.specs.Term.{pick}
+use Rattle.term.specs.Rule.{rules, headOf}
+use Rattle.term.specs.Code.{ruleOf}
 use Rattle.term.proofs.Reduce.{says-test}
 use Rattle.term.proofs.Numbered.{same-below, Apart, Arms, choice}
 use Rattle.term.proofs.Rule.{rule-head}

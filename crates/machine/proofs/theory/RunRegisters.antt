@@ -11,7 +11,7 @@ use Rattle.base.proofs.Grow.{grow-kept, grow-at, length-listed, listed-at}
 use Rattle.base.proofs.Says.{Says}
 use Rattle.base.specs.Grow.{grow, listed}
 use Rattle.term.specs.Term.{asymmetric, Term, term?, isKey, inverse as inverse-of}
-use Rattle.term.specs.Reduce.{match?}
+use Rattle.term.specs.Computed.{match?}
 use Rattle.term.specs.Table.{void}
 use Rattle.term.proofs.Reduce.{says-test}
 use Rattle.submission.specs.Record.{entries, entryAt, term}

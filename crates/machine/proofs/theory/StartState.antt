@@ -14,9 +14,11 @@ use Rattle.base.specs.First.{first}
 use Rattle.base.specs.Grow.{grow}
 use Rattle.base.proofs.Grow.{length-listed}
 use Rattle.term.specs.Term.{Kind, plain, public, private, Shape, atomic, compound, isAtomic, atom}
-use Rattle.term.specs.Kind.{shapeOf, kindOf, isUnary, builderOf}
+use Rattle.term.specs.Kind.{shapeOf, kindOf}
+use Rattle.term.specs.Code.{isUnary, builderOf}
 use Rattle.term.proofs.Kind.{shape-kind}
-use Rattle.term.specs.Table.{leaf, message, void, decoded, Table}
+use Rattle.term.specs.Table.{leaf, message, void, decoded}
+use Rattle.term.specs.Code.{Table}
 use Rattle.submission.specs.declared.Term.{Term as TermRead}
 use Rattle.submission.specs.Record.{terms, entries, entryAt, guess, kindAt, nameAt, recordAt, term}
 use Rattle.submission.specs.Code.{IsTerm}

@@ -12,7 +12,8 @@ use borrow.Author.Count.{below-more}
 use borrow.Author.Tests.{eq-eqb}
 use Rattle.base.specs.Grow.{grow}
 use Rattle.base.proofs.Grow.{length-grow, grow-alike}
-use Rattle.term.specs.Table.{Rec, message, void, decoded, Below, Table}
+use Rattle.term.specs.Table.{Rec, message, void, decoded}
+use Rattle.term.specs.Code.{Below, Table}
 use Rattle.term.proofs.Table.{extended}
 use Rattle.machine.specs.declared.Node.{Node}
 use Rattle.machine.specs.declared.Machine.{Machine}

@@ -5,10 +5,11 @@ use mathlib.Core.List.{List}
 use Prim.Native.Nat.{ℕ, _<_}
 use Rattle.base.proofs.Says.{Says, says-and, says-not, says-any}
 use Rattle.term.specs.Term.{Term, inverse, Part}
-use Rattle.term.specs.Fresh.{Fresh, isPart}
+use Rattle.term.specs.Fresh.{Fresh}
+use Rattle.term.specs.Computed.{isPart}
 use Rattle.term.proofs.FreshLaws.{says-part}
 use Rattle.submission.specs.Record.{entries, entryAt, term, InKnowledge}
-use Rattle.submission.specs.Fresh.{isKnownPart, isFresh}
+use Rattle.submission.specs.Computed.{isKnownPart, isFresh}
 
 says-known-part : (s : List ℕ) (x : Term) → Says (isKnownPart s x) ((t : Term) × InKnowledge s t × Part x t)
 unfolding isKnownPart

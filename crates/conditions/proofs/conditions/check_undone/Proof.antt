@@ -2,7 +2,7 @@
 use Prim.Native.Nat.{_-_}
 use Rattle.base.proofs.First.{Passed}
 use Rattle.base.proofs.StageLaws.{fails-hit, passes-all}
-use Rattle.conditions.specs.Check.{undone}
+use Rattle.conditions.specs.Computed.{undone}
 use Rattle.base.proofs.Scan.{scan}
 use Rattle.conditions.proofs.conditions.check_undone.Statement.{statement}
 use Rattle.conditions.proofs.conditions.check_undone.Tie as tie

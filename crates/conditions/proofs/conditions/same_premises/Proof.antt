@@ -1,6 +1,6 @@
 -- `checker::conditions::same_premises` meets its contract: one test a return.
 use Rattle.base.proofs.TestChains.{chain}
-use Rattle.conditions.specs.Check.{samePremises}
+use Rattle.conditions.specs.Computed.{samePremises}
 use Rattle.base.proofs.Scan.{scan}
 use borrow.Author.Needs.{needs}
 use Rattle.conditions.proofs.conditions.same_premises.Statement.{statement}

@@ -2,7 +2,7 @@
 use mathlib.Core.{Bool.Bool, Bool._&&_, Bool.not, List.List}
 use Rattle.base.specs.First.{any}
 use Prim.Native.Nat.{ℕ}
-use Rattle.term.specs.{Term.Term, Term.inverse, Fresh.isPart}
+use Rattle.term.specs.{Term.Term, Term.inverse, Computed.isPart}
 use Rattle.submission.specs.Record.{entries, entryAt, term}
 
 -- x is part of a message in the knowledge

@@ -1,0 +1,47 @@
+-- Conditions 3 to 5 as tests of term numbers. What each says of terms is a theorem: `reachable-iff`, `second-way-iff`, `undone-iff`.
+use mathlib.Core.{Bool.Bool, Bool.false, Bool._&&_, Bool._||_, Bool.not, List.List, Option.Option, Option.none, Option.some}
+use Prim.Native.Nat.{ℕ}
+use lib.Dec.{eqb}
+use Rattle.term.specs.Computed.{ruleTakesApart}
+use Rattle.submission.specs.{Record.steps, Record.ruleAt, Record.pAt, Record.conclusionAt, Record.verifying, Record.wayAt, Record.companion, Record.areInverse, Way.Way, Way.another-step, Way.at-start, Way.inverse-key, Way.wayOf, Way.row}
+use Rattle.derivation.specs.{Register.isKnown, Step.secondAt}
+use Rattle.deduction.specs.Computed.{entryMarks, isDeducible}
+
+-- 8 reachable: "condition 3 broken"; every premise of the verifying step is deducible from the knowledge, in which the guess does not count
+unfoldable pub reachable : List ℕ → Bool
+reachable s =
+    isDeducible s (entryMarks s) (pAt s (verifying s)) && isDeducible s (entryMarks s) (secondAt s (verifying s))
+
+-- the premise sets of two steps are equal: each holds the other's members
+abbrev pub isPremise : List ℕ → ℕ → ℕ → Bool
+isPremise s i t = eqb t (pAt s i) || eqb t (secondAt s i)
+
+unfoldable pub samePremises : List ℕ → ℕ → ℕ → Bool
+samePremises s i j =
+    (isPremise s j (pAt s i) && isPremise s j (secondAt s i)) && (isPremise s i (pAt s j) && isPremise s i (secondAt s j))
+
+-- 9 no second way: "condition 4 broken". Before step 0 the knowledge and the guess are known.
+abbrev pub hasSecondWay : List ℕ → Option Way → Bool
+hasSecondWay s none = false
+hasSecondWay s (some another-step) =
+    eqb (conclusionAt s (companion s)) (conclusionAt s (verifying s))
+    && (not (eqb (ruleAt s (verifying s)) (ruleAt s (companion s))) || not (samePremises s (verifying s) (companion s)))
+hasSecondWay s (some at-start) = isKnown s 0 (conclusionAt s (verifying s))
+hasSecondWay s (some inverse-key) = areInverse s (conclusionAt s (verifying s)) (companion s) && isKnown s (steps s) (companion s)
+
+-- a step of the rule r on the first premise p takes apart the very term t that a step of the rule b concludes
+abbrev pub dismantles : ℕ → ℕ → ℕ → ℕ → Bool
+dismantles r p b t = ruleTakesApart r b && eqb p t
+
+-- 10 undone: "condition 5 broken", place "lowest undone step". Step j undoes step i.
+unfoldable pub undoesStep : List ℕ → ℕ → ℕ → Bool
+undoesStep s j i =
+    dismantles (ruleAt s j) (pAt s j) (ruleAt s i) (conclusionAt s i) || dismantles (ruleAt s i) (pAt s i) (ruleAt s j) (conclusionAt s j)
+
+-- in way a the companion must undo nothing either
+abbrev pub companionUndoes : List ℕ → Option Way → ℕ → Bool
+companionUndoes s none i = false
+companionUndoes s (some w) i = row w .companionKept && undoesStep s (companion s) i
+
+unfoldable pub undone : List ℕ → ℕ → Bool
+undone s i = undoesStep s (verifying s) i || companionUndoes s (wayOf (wayAt s)) i
