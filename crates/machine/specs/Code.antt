@@ -135,9 +135,9 @@ abbrev pub withValue : Machine → Node → Found → Machine
 withValue m v (At n) = withRegister m n
 withValue m v Nothing = withRegister (withNode m v) (m .nodes)
 
--- what a rule's word is: the node that it reduces to, or its own node v, looked for behind its left operand
-abbrev pub resultOf : Machine → Node → Found → Found
-resultOf m v reduced = orFound reduced (foundOf (first (isNodeFrom (m .heads) (m .lefts) (m .rights) v (v .left + 1)) (m .nodes)))
+-- the node that a term reduces to, or the first from a number on that is v
+abbrev pub valueOf : Machine → Node → ℕ → Found → Found
+valueOf m v from reduced = orFound reduced (foundOf (first (isNodeFrom (m .heads) (m .lefts) (m .rights) v from) (m .nodes)))
 
 pub record Valued (m : Machine) (v : Node) (found : Found) (r : Machine) : Type 0 where
   pub room : Room m

@@ -23,7 +23,7 @@ ghost use Rattle.submission.specs.Record.{terms as termCount, entries as entryC
 ghost use Rattle.program.specs.Program.{testAt, badProgram};
 ghost use Rattle.program.specs.Code.{instructionIn};
 ghost use Rattle.machine.specs.Run.{executed as executedTerm, signals, runAnswer};
-ghost use Rattle.machine.specs.Code.{sideOf, nodeFor, nodeOf, operandsOf, sameNode, partsOfOne, inverseNodes, matchNodes, isNodeFrom, foundOf, orFound, resultOf, when, values, Executable, Valued, Gives, SubmissionRead, knowledge, Loaded, Started, Running, Testable};
+ghost use Rattle.machine.specs.Code.{sideOf, nodeFor, nodeOf, operandsOf, sameNode, partsOfOne, inverseNodes, matchNodes, isNodeFrom, foundOf, orFound, valueOf, when, values, Executable, Valued, Gives, SubmissionRead, knowledge, Loaded, Started, Running, Testable};
 
 // ---- Terms as nodes.
 
@@ -236,37 +236,41 @@ fn find<'a>(
     Found::Nothing
 }
 
-// What a term that may reduce is: the node that it reduces to, or the node v, looked for behind its left operand and below n.
+// The node that a term reduces to, or the first that is v, of those from `from` on and below n.
 fn value_of<'a>(
     heads: &'a [u8; 384],
     lefts: &'a [u16; 384],
     rights: &'a [u16; 384],
     v: Node,
+    from: u16,
     n: u16,
     reduced: Found,
 ) -> Found
-    requires { ⌜ v .left < n ⌝ }
+    requires { ⌜ from ≤ n ⌝ }
     requires { ⌜ n ≤ 384 ⌝ }
-    ensures { λ r. ⌜ r ≡ orFound reduced (foundOf (first (isNodeFrom (now (heads .entry)) (now (lefts .entry)) (now (rights .entry)) v (v .left + 1)) n)) ⌝ }
+    ensures { λ r. ⌜ r ≡ orFound reduced (foundOf (first (isNodeFrom (now (heads .entry)) (now (lefts .entry)) (now (rights .entry)) v from) n)) ⌝ }
 {
     let Found::At(i) = reduced else {
-        return find(heads, lefts, rights, v, v.left + 1, n);
+        return find(heads, lefts, rights, v, from, n);
     };
     Found::At(i)
 }
 
 impl Machine {
-    // The state with v in the next register: by its number, where that was found, or added.
-    fn with_value(mut self, v: Node, found: Found) -> Self
+    // The state with a term in the next register: the node that it reduces to, or else v, by its number where a node from `from` on is v, and
+    // added where none is.
+    fn with_value(mut self, v: Node, from: u16, reduced: Found) -> Self
+        requires { ⌜ from ≤ self .nodes ⌝ }
         requires { ⌜ self .nodes < 384 ⌝ }
         requires { ⌜ self .used < 256 ⌝ }
-        ensures { λ r. ⌜ Valued self v found r ⌝ }
+        ensures { λ r. ⌜ Valued self v (valueOf self v from reduced) r ⌝ }
     {
+        let n = self.nodes;
+        let found = value_of(&self.heads, &self.lefts, &self.rights, v, from, n, reduced);
         let used = self.used;
         let i = index(used);
         self.used = used + 1;
         let Found::At(there) = found else {
-            let n = self.nodes;
             let k = index(n);
             self.heads[k] = v.head;
             self.lefts[k] = v.left;
@@ -277,24 +281,6 @@ impl Machine {
         };
         self.registers[i] = there;
         self
-    }
-
-    // The state with a rule's result in the next register: the node that its word reduces to, or the node v of the word itself.
-    fn with_result(self, v: Node, reduced: Found) -> Self
-        requires { ⌜ v .left < self .nodes ⌝ }
-        requires { ⌜ self .nodes < 384 ⌝ }
-        requires { ⌜ self .used < 256 ⌝ }
-        ensures { λ r. ⌜ Valued self v (resultOf self v reduced) r ⌝ }
-    {
-        let found = value_of(
-            &self.heads,
-            &self.lefts,
-            &self.rights,
-            v,
-            self.nodes,
-            reduced,
-        );
-        self.with_value(v, found)
     }
 
     // Executes one instruction: its result goes to the next register.
@@ -308,21 +294,24 @@ impl Machine {
         let b = self.registers[q];
         let o = operands_at(&self.heads, &self.lefts, &self.rights, a, b);
         let rule = i.rule;
+        // A rule with no arm has no reduction.
+        let reduced = match rule {
+            rules::PAIR => joined(o),
+            rules::FST => parted(Side::Left, o),
+            rules::SND => parted(Side::Right, o),
+            rules::ENC => cancelled(Cipher::Symmetric, rules::DEC, o, b),
+            rules::DEC => cancelled(Cipher::Symmetric, rules::ENC, o, b),
+            rules::ENCA => cancelled(Cipher::Asymmetric, rules::DECA, o, b),
+            rules::DECA => cancelled(Cipher::Asymmetric, rules::ENCA, o, b),
+            _ => Found::Nothing,
+        };
         let v = Node {
             head: rule,
             left: a,
             right: b,
         };
-        match rule {
-            rules::PAIR => self.with_result(v, joined(o)),
-            rules::FST => self.with_result(v, parted(Side::Left, o)),
-            rules::SND => self.with_result(v, parted(Side::Right, o)),
-            rules::ENC => self.with_result(v, cancelled(Cipher::Symmetric, rules::DEC, o, b)),
-            rules::DEC => self.with_result(v, cancelled(Cipher::Symmetric, rules::ENC, o, b)),
-            rules::ENCA => self.with_result(v, cancelled(Cipher::Asymmetric, rules::DECA, o, b)),
-            rules::DECA => self.with_result(v, cancelled(Cipher::Asymmetric, rules::ENCA, o, b)),
-            _ => self.with_result(v, Found::Nothing),
-        }
+        // A node comes after its left operand.
+        self.with_value(v, a + 1, reduced)
     }
 }
 
@@ -415,8 +404,7 @@ fn initial(s: &[u8], name: u16) -> Machine
         left: name,
         right: 0,
     };
-    let found = find(&m.heads, &m.lefts, &m.rights, v, 0, m.nodes);
-    m.with_value(v, found)
+    m.with_value(v, 0, Found::Nothing)
 }
 
 // The state after all instructions.

@@ -1,6 +1,5 @@
 -- `initial` meets its contract: the guess's atom goes to the next register.
 use Rattle.machine.proofs.theory.StartState.{guess-fits, guess-room, guess-space, guess-started}
-use native.Mathlib.Nat.{le-of-lt}
 use borrow.Author.Needs.{needs}
 use Rattle.machine.proofs.initial.Statement.{statement}
 use Rattle.machine.proofs.initial.Tie as tie
@@ -14,14 +13,11 @@ claim-bytes-requires c κs = search needs
 term-at-requires : tie.Need-term-at-requires
 term-at-requires c κs = search needs
 
-add-t9 : tie.Need-add-t9
-add-t9 c = search guess-fits
-
-find-requires : tie.Need-find-requires
-find-requires c κs = (search needs, search (le-of-lt, guess-room))
+add-t7 : tie.Need-add-t7
+add-t7 c = search guess-fits
 
 with-value-requires : tie.Need-with-value-requires
-with-value-requires c κs = (search guess-room, search guess-space)
+with-value-requires c κs = (search needs, (search guess-room, search guess-space))
 
 returns : tie.Need-returns
 returns c = search guess-started
@@ -33,7 +29,6 @@ initial-spec =
     with-knowledge-requires
     claim-bytes-requires
     term-at-requires
-    add-t9
-    find-requires
+    add-t7
     with-value-requires
     returns)

@@ -2,7 +2,7 @@
 use mathlib.Core.Path.{_≡_, refl, sym, ap, _∙_, subst}
 use mathlib.Core.Bool.{Bool}
 use mathlib.Core.Logic.{_⊎_, inl, inr, ⊎-elim}
-use Prim.Native.Nat.{ℕ, _+_, _<_}
+use Prim.Native.Nat.{ℕ, _<_}
 use lib.Dec.{eqb}
 use borrow.Author.Tests.{eq-eqb, eqb-true}
 use Rattle.base.proofs.Says.{Says, says-eqb, says-and, says-or, same-test}
@@ -26,13 +26,23 @@ cipherOf Asymmetric = asymmetric
 decided : {P : Type 0} {b : Bool} (d : Dec P) → Says b P → b ≡ test d
 decided {b = b} d w = same-test b (test d) w (says-test d)
 
+-- the nodes of keys of one name, one public and one private
+abbrev InverseHeads : Node → Node → Type 0
+InverseHeads x y =
+    (((x .head ≡ atomHead public) × (y .head ≡ atomHead private)) ⊎ ((x .head ≡ atomHead private) × (y .head ≡ atomHead public))) × (x .left ≡ y .left)
+
+says-heads : (x y : Node) → Says (inverseNodes x y) (InverseHeads x y)
+unfolding inverseNodes
+says-heads x y =
+    says-and _ _ (says-or _ _ (says-and _ _ (says-eqb _ _) (says-eqb _ _)) (says-and _ _ (says-eqb _ _) (says-eqb _ _))) (says-eqb _ _)
+
 module _ {m : Machine} {k j : ℕ} (w : SoundState m) (l : k < m .nodes) (n : j < m .nodes) where
   pub one-term : eqb k j ≡ test (term? (termAt m j) (termAt m k))
   one-term = decided (term? _ _) (λ e. sym (ap (termAt m) (eqb-true k j e)), λ u. eq-eqb k j (sym (decode-inj (w .table) j k n l u)))
 
   -- a key's node, and its inverse's
-  of-kind : (κ : Kind) → isKey (atom κ 0) → nodeIn m k .head ≡ atomHead κ → nodeIn m j .head ≡ atomHead (otherKind κ) → nodeIn m k .left ≡ nodeIn m j .left →
-      Match asymmetric (termAt m k) (termAt m j)
+  of-kind : (κ : Kind) → isKey (atom κ 0) → nodeIn m k .head ≡ atomHead κ → nodeIn m j .head ≡ atomHead (otherKind κ) →
+      nodeIn m k .left ≡ nodeIn m j .left → Match asymmetric (termAt m k) (termAt m j)
   of-kind κ i a b q =
       let t = atom-term w l κ a in
       record { fits = subst isKey (sym t) (named κ (nodeIn m k .left) i); turned = atom-term w n (otherKind κ) b ∙ ap (atom (otherKind κ)) (sym q) ∙ sym (ap inverse t) }
@@ -42,17 +52,15 @@ module _ {m : Machine} {k j : ℕ} (w : SoundState m) (l : k < m .nodes) (n : j 
       named public x i = i
       named private x i = i
 
-  heads-of : (t : Term) → termAt m k ≡ t → isKey t → termAt m j ≡ inverse t →
-      (((nodeIn m k .head ≡ atomHead public) × (nodeIn m j .head ≡ atomHead private)) ⊎ ((nodeIn m k .head ≡ atomHead private) × (nodeIn m j .head ≡ atomHead public))) × (nodeIn m k .left ≡ nodeIn m j .left)
+  heads-of : (t : Term) → termAt m k ≡ t → isKey t → termAt m j ≡ inverse t → InverseHeads (nodeIn m k) (nodeIn m j)
   heads-of (atom plain x) e i f = absurd i
   heads-of (atom public x) e i f = let u = atom-node w l e in let v = atom-node w n f in (inl (u .0, v .0), u .1 ∙ sym (v .1))
   heads-of (atom private x) e i f = let u = atom-node w l e in let v = atom-node w n f in (inr (u .0, v .0), u .1 ∙ sym (v .1))
   heads-of (node h a b) e i f = absurd i
 
   says-inverse : Says (inverseNodes (nodeIn m k) (nodeIn m j)) (Match asymmetric (termAt m k) (termAt m j))
-  unfolding inverseNodes
   says-inverse =
-      let s = says-and _ _ (says-or _ _ (says-and _ _ (says-eqb (nodeIn m k .head) (atomHead public)) (says-eqb (nodeIn m j .head) (atomHead private))) (says-and _ _ (says-eqb (nodeIn m k .head) (atomHead private)) (says-eqb (nodeIn m j .head) (atomHead public)))) (says-eqb (nodeIn m k .left) (nodeIn m j .left)) in (
+      let s = says-heads (nodeIn m k) (nodeIn m j) in (
         λ e. let u = s .0 e in ⊎-elim (λ v. of-kind public tt (v .0) (v .1) (u .1)) (λ v. of-kind private tt (v .0) (v .1) (u .1)) (u .0),
         λ u. s .1 (heads-of (termAt m k) refl (u .fits) (u .turned)),
       )

@@ -1,9 +1,9 @@
 -- Nodes and records, one for one; and the node of a term, by the term's head.
 use mathlib.Core.Path.{_≡_, refl, sym, ap, _∙_}
-use Prim.Native.Nat.{ℕ, _+_, _<_}
+use Prim.Native.Nat.{ℕ, _<_}
 use native.Mathlib.Omega.{arith}
 use borrow.Author.Tests.{lt-ltb}
-use Rattle.term.specs.Term.{Kind, plain, public, private, Head, Term, atom, node, atomic}
+use Rattle.term.specs.Term.{Kind, plain, public, private, Head, Term, atom, node}
 use Rattle.term.specs.Kind.{shapeOf}
 use Rattle.term.specs.Table.{Rec, leaf, branch, message}
 use Rattle.term.specs.Code.{ruleOf}

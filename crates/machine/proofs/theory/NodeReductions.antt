@@ -3,11 +3,10 @@ use mathlib.Core.Path.{_≡_, refl, sym, ap, ap₂, _∙_, subst}
 use mathlib.Core.Bool.{Bool, true, false, _&&_}
 use mathlib.Core.List.{List, [], _∷_}
 use mathlib.Core.Logic.{Dec·and, if-pos, if-neg}
-use Prim.Native.Nat.{ℕ, _+_, _≤_, _<_}
+use Prim.Native.Nat.{ℕ, _+_, _<_}
 use native.Mathlib.Omega.{arith}
 use lib.Dec.{eqb}
 use borrow.Author.Tests.{lt-ltb, eq-eqb, ne-eqb}
-use Rattle.base.specs.First.{first}
 use Rattle.base.specs.Grow.{grow}
 use Rattle.base.proofs.Says.{Says, says-true, says-eqb, says-and, denies}
 use Rattle.term.specs.Term.{Cipher, symmetric, asymmetric, Side, left, right, pair, encryption, Head, make, part, decrypt, Term, atom, node, head?, term?, test, Match}
@@ -28,7 +27,7 @@ use Rattle.machine.specs.declared.Operands.{Operands}
 use Rattle.machine.specs.declared.Found.{Found}
 use Rattle.machine.specs.declared.Found.the-variants.{At, Nothing}
 use Rattle.machine.specs.declared.Cipher.{Cipher as CipherRead}
-use Rattle.machine.specs.Code.{atoms, recordFor, nodeFor, nodeOf, operandsOf, operandsIn, nodeIn, nodeAt, resultOf, partsOfOne, matchNodes, when, termAt, SoundState, withRegister, withValue, Valued, Gives}
+use Rattle.machine.specs.Code.{atoms, recordFor, nodeFor, nodeOf, operandsOf, operandsIn, nodeIn, nodeAt, valueOf, partsOfOne, matchNodes, when, termAt, SoundState, Valued, Gives}
 use Rattle.machine.proofs.theory.NodeRecords.{compound-below, compound-term, compound-node}
 use Rattle.machine.proofs.theory.NodeSearch.{same-node, Absent, found-gives}
 use Rattle.machine.proofs.theory.StateGrowth.{isNode, Fit, stored-gives, register-stored}
@@ -46,7 +45,7 @@ pub record Reduct (m : Machine) (h : Head) (a b : ℕ) (reduced : Found) : Type 
   pub nothing : reduced ≡ Nothing → op h (termAt m a) (termAt m b) ≡ node h (termAt m a) (termAt m b)
 
 -- ---- a rule's own node
-abbrev form : ℕ → ℕ → ℕ → Node
+abbrev pub form : ℕ → ℕ → ℕ → Node
 form rule a b = record { head = rule; left = a; right = b }
 
 form-record : (rule a b : ℕ) → rule < rules → recordFor (form rule a b) ≡ branch (headOf rule) a b
@@ -72,8 +71,8 @@ module _ {m : Machine} {rule a b : ℕ} (w : Ready m a b) (l : rule < rules) whe
           omega (arith, z .0)
 
   -- the result: what the rule's word reduces to, or its own node
-  pub result-gives : {r : Machine} (reduced : Found) → Reduct m (headOf rule) a b reduced → Valued m (record { head = rule; left = a; right = b }) (resultOf m (record { head = rule; left = a; right = b }) reduced) r →
-      Gives m (op (headOf rule) (termAt m a) (termAt m b)) r
+  pub result-gives : {r : Machine} (reduced : Found) → Reduct m (headOf rule) a b reduced →
+      Valued m (form rule a b) (valueOf m (form rule a b) (a + 1) reduced) r → Gives m (op (headOf rule) (termAt m a) (termAt m b)) r
   result-gives (At n) d v =
       let (l, t) = d .there n refl in
       rw (v .is, t) (stored-gives (register-stored (w .sound) l (v .space) refl))
@@ -217,7 +216,8 @@ picked : (T : ℕ → Term) (s : Side) (x y : ℕ) → pick s (T x) (T y) ≡ T 
 picked T left x y = refl
 picked T right x y = refl
 
-part-reduct : {m : Machine} {a b : ℕ} {x : Node} {r : Found} (s : Side) → Ready m a b → x ≡ nodeIn m a → r ≡ when (eqb (x .head) (ruleOf (make pair))) (pick s (x .left) (x .right)) → Reduct m (part s) a b r
+part-reduct : {m : Machine} {a b : ℕ} {x : Node} {r : Found} (s : Side) → Ready m a b → x ≡ nodeIn m a →
+    r ≡ when (eqb (x .head) (ruleOf (make pair))) (pick s (x .left) (x .right)) → Reduct m (part s) a b r
 unfolding op
 part-reduct {m} {a} {b} {x} s w e q = rw q (when-reduct _ _ here other)
   where
@@ -225,7 +225,8 @@ part-reduct {m} {a} {b} {x} s w e q = rw q (when-reduct _ _ here other)
     below left h = left-below (make pair) (w .sound) (w .left) e h
     below right h = right-below (make pair) (w .sound) (w .left) e h
 
-    here : eqb (x .head) (ruleOf (make pair)) ≡ true → (pick s (x .left) (x .right) < m .nodes) × (parted s (termAt m a) (termAt m b) ≡ termAt m (pick s (x .left) (x .right)))
+    here : eqb (x .head) (ruleOf (make pair)) ≡ true →
+        (pick s (x .left) (x .right) < m .nodes) × (parted s (termAt m a) (termAt m b) ≡ termAt m (pick s (x .left) (x .right)))
     here t =
         let h = says-eqb (x .head) (ruleOf (make pair)) .0 t in
         (below s h, ap (λ z. parted s z (termAt m b)) (term-is (make pair) (w .sound) (w .left) e h) ∙ part-some s _ _ _ ∙ picked (termAt m) s _ _)
@@ -267,5 +268,6 @@ step-table n l a b = same-below (λ n. op (headOf n) a b) (λ n. choice (reducti
 pub other-reduct : {m : Machine} {n a b : ℕ} → Apart n 7 → n < rules → Reduct m (headOf n) a b Nothing
 other-reduct {m} {n} {a} {b} (((((((_, c), d), e), f), g), h), i) l = record {
   there = λ k e. absurd (let z : _≡_ {A = ℕ} 0 1 = cc in omega arith);
-  nothing = λ u. step-table n l (termAt m a) (termAt m b) ∙ rw (ne-eqb _ _ c, ne-eqb _ _ d, ne-eqb _ _ e, ne-eqb _ _ f, ne-eqb _ _ g, ne-eqb _ _ h, ne-eqb _ _ i);
+  nothing = λ u. step-table n l (termAt m a) (termAt m b)
+      ∙ rw (ne-eqb _ _ c, ne-eqb _ _ d, ne-eqb _ _ e, ne-eqb _ _ f, ne-eqb _ _ g, ne-eqb _ _ h, ne-eqb _ _ i);
 }

@@ -87,17 +87,15 @@ module _ {r : Found} (o : Found) where
   found-second e f = rw e f
 
 -- ---- the state with a value in the next register, as the code writes it
-module _ {m : Machine} {v : Node} {o : Found} {i : ℕ} (q : i ≡ m .used) (x : m .nodes < length (m .heads)) (y : m .nodes < length (m .lefts)) (z : m .nodes < length (m .rights)) (w : m .used < length (m .registers)) where
-  pub value-new : {k : ℕ} → o ≡ Nothing → k ≡ m .nodes →
+module _ {m : Machine} {v : Node} {f o : Found} {i : ℕ} (u : f ≡ o) (q : i ≡ m .used)
+    (x : m .nodes < length (m .heads)) (y : m .nodes < length (m .lefts)) (z : m .nodes < length (m .rights)) (w : m .used < length (m .registers)) where
+  pub value-new : {k : ℕ} → f ≡ Nothing → k ≡ m .nodes →
       Valued m v o (record { heads = set (m .heads) k (v .head); lefts = set (m .lefts) k (v .left); rights = set (m .rights) k (v .right); nodes = m .nodes + 1; registers = set (m .registers) i (m .nodes); used = m .used + 1 })
-  value-new e f = record { room = record { heads = x; lefts = y; rights = z }; space = w; is = rw (e, f, q) }
+  value-new e g = record { room = record { heads = x; lefts = y; rights = z }; space = w; is = rw (← u, e, g, q) }
 
-  pub value-there : {n : ℕ} → o ≡ At n →
+  pub value-there : {n : ℕ} → f ≡ At n →
       Valued m v o (record { heads = m .heads; lefts = m .lefts; rights = m .rights; nodes = m .nodes; registers = set (m .registers) i n; used = m .used + 1 })
-  value-there e = record { room = record { heads = x; lefts = y; rights = z }; space = w; is = rw (e, q) }
-
-pub valued-as : {m r : Machine} {v : Node} {f o : Found} → Valued m v f r → f ≡ o → Valued m v o r
-valued-as w e = rw (← e) w
+  value-there e = record { room = record { heads = x; lefts = y; rights = z }; space = w; is = rw (← u, e, q) }
 
 -- ---- inverse keys
 module _ (v w : Node) where

@@ -1,18 +1,14 @@
 -- A run: the instructions of a program that passes check 13, its test, and the answer.
 use mathlib.Core.Path.{_≡_, refl, sym, ap, ap₂, _∙_}
-use mathlib.Core.Bool.{Bool, true, false, not, cond}
+use mathlib.Core.Bool.{Bool, true, false, cond}
 use mathlib.Core.Option.{Option, none, some}
 use mathlib.Core.List.{List, [], _∷_, _++_}
 use Prim.Native.Nat.{ℕ, _+_, _≤_, _<_}
 use native.Mathlib.Numerals.{add-one}
 use native.Mathlib.Omega.{arith}
-use lib.Dec.{eqb, ltb}
-use lib.ListN.{length, getD}
-use borrow.Author.Tests.{ltb-true, ltb-false, ne-eqb}
-use Rattle.base.specs.First.{any}
+use lib.Dec.{eqb}
+use lib.ListN.{getD}
 use Rattle.base.specs.Grow.{grow}
-use Rattle.base.proofs.Says.{says-true, says-ltb, says-and, says-any, denies, not-not-false, or-false}
-use Rattle.term.specs.Rule.{rules, hasOne}
 use Rattle.base.specs.declared.Stage.{Stage}
 use Rattle.submission.specs.declared.Claim.{Claim}
 use Rattle.submission.specs.declared.Reading.{Reading}

@@ -10,7 +10,6 @@ use mir.Syntax.{w8}
 use mir.Val.{Fits}
 use lib.ListN.{length, getD, set, length-set, length-append}
 use borrow.Author.Count.{below-more}
-use Rattle.base.specs.First.{first}
 use Rattle.base.specs.Grow.{grow}
 use Rattle.base.proofs.Grow.{length-listed}
 use Rattle.term.specs.Term.{Kind, plain, public, private, Shape, atomic, compound, isAtomic, atom}
@@ -25,9 +24,9 @@ use Rattle.submission.specs.Code.{IsTerm}
 use Rattle.submission.proofs.theory.ListedTerms.{Claimed, claimed}
 use Rattle.machine.specs.declared.Node.{Node}
 use Rattle.machine.specs.declared.Machine.{Machine}
-use Rattle.machine.specs.declared.Found.{Found}
+use Rattle.machine.specs.declared.Found.the-variants.{Nothing}
 use Rattle.machine.specs.Run.{atomKind, guessed, initial}
-use Rattle.machine.specs.Code.{atoms, atomHead, recordFor, nodeFor, nodeIn, nodeAt, termAt, values, SoundState, withNode, Room, isNodeFrom, foundOf, Valued, SubmissionRead, knowledge, Loaded, Started}
+use Rattle.machine.specs.Code.{atoms, atomHead, recordFor, nodeFor, nodeIn, nodeAt, termAt, values, SoundState, withNode, Room, valueOf, Valued, SubmissionRead, knowledge, Loaded, Started}
 use Rattle.machine.proofs.theory.NodeRecords.{atom-record, record-node}
 use Rattle.machine.proofs.theory.StateGrowth.{decoded-alike, node-old, node-new, Fit, register-stored}
 use Rattle.machine.proofs.theory.NodeSearch.{Absent, found-gives}
@@ -181,24 +180,26 @@ module _ {s : List ℕ} {g : ℕ} {z : TermRead} (w : SubmissionRead s) (e : IsT
   guess-fits = rw guess-kind (kind-fits (facts w .guess-kind))
 
   module _ {m : Machine} (name : ℕ) (h : Loaded s (knowledge s (entries s)) m) where
-    guess-record : recordFor (record { head = atoms + z .kind; left = name; right = 0 }) ≡ leaf (facts w .guess-kind) name
+    abbrev guessNode : Node
+    guessNode = record { head = atoms + z .kind; left = name; right = 0 }
+
+    guess-record : recordFor guessNode ≡ leaf (facts w .guess-kind) name
     guess-record = rw guess-kind (atom-record (facts w .guess-kind) name 0)
 
-    guess-fit : Fit m (record { head = atoms + z .kind; left = name; right = 0 })
+    guess-fit : Fit m guessNode
     guess-fit = record {
       sound = h .holds .sound;
       canonical = rw guess-record (rw guess-kind refl);
       low = rw guess-record tt;
     }
 
-    guess-absent : Absent m (record { head = atoms + z .kind; left = name; right = 0 }) 0
+    guess-absent : Absent m guessNode 0
     guess-absent = record { none = λ k b. absurd (omega arith) }
 
-    pub guess-started : {o : Found} {r : Machine} → o ≡ foundOf (first (isNodeFrom (m .heads) (m .lefts) (m .rights) (record { head = atoms + z .kind; left = name; right = 0 }) 0) (m .nodes)) →
-        Valued m (record { head = atoms + z .kind; left = name; right = 0 }) o r → Started s name r
+    pub guess-started : {r : Machine} → Valued m guessNode (valueOf m guessNode 0 Nothing) r → Started s name r
     unfolding initial guessed
-    guess-started e v =
-        let d = found-gives 0 guess-fit guess-absent e v in
+    guess-started v =
+        let d = found-gives 0 guess-fit guess-absent refl v in
         record {
           holds = record {
             sound = d .holds .sound;

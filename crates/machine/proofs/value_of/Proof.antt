@@ -10,9 +10,6 @@ enum-known-reduced c = search needs
 enum-told : tie.Need-enum-told
 enum-told c = search needs
 
-add-find : tie.Need-add-find
-add-find c = search needs
-
 find-requires : tie.Need-find-requires
 find-requires c κs = search needs
 
@@ -24,4 +21,4 @@ returns-2 c = search found-first
 
 pub value-of-spec : {M : Type 1} → statement M
 value-of-spec =
-    tie.close (tie.spec enum-known-reduced enum-told add-find find-requires returns returns-2)
+    tie.close (tie.spec enum-known-reduced enum-told find-requires returns returns-2)

@@ -1,7 +1,9 @@
 -- `step` executes one instruction: each rule's reduction, by case, and the result in the next register.
+use mathlib.Core.Logic.{⊎-elim}
 use Rattle.term.specs.Term.{left, right}
 use Rattle.machine.specs.declared.Cipher.the-variants.{Symmetric, Asymmetric}
-use Rattle.machine.proofs.theory.InstructionResult.{left-below, left-in, right-in, key-in, operands-read, step-pair, step-part, step-encrypt, step-decrypt, step-form}
+use Rattle.machine.proofs.theory.InstructionResult.{left-in, right-in, key-in, left-behind, left-fits}
+use Rattle.machine.proofs.theory.InstructionResult.{operands-read, step-pair, step-part, step-encrypt, step-decrypt, step-form}
 use borrow.Author.Needs.{needs}
 use Rattle.machine.proofs.Machine.step.Statement.{statement}
 use Rattle.machine.proofs.Machine.step.Tie as tie
@@ -33,71 +35,41 @@ operands-at-requires c κs = (search left-in, (search right-in, search key-in))
 joined-requires : tie.Need-joined-requires
 joined-requires c κs = search needs
 
-with-result-requires : tie.Need-with-result-requires
-with-result-requires c κs = (search left-below, search needs)
-
 parted-requires : tie.Need-parted-requires
 parted-requires c κs = search needs
-
-with-result-requires-2 : tie.Need-with-result-requires-2
-with-result-requires-2 c κs = (search left-below, search needs)
 
 parted-requires-2 : tie.Need-parted-requires-2
 parted-requires-2 c κs = search needs
 
-with-result-requires-3 : tie.Need-with-result-requires-3
-with-result-requires-3 c κs = (search left-below, search needs)
-
 cancelled-requires : tie.Need-cancelled-requires
 cancelled-requires c κs = search needs
-
-with-result-requires-4 : tie.Need-with-result-requires-4
-with-result-requires-4 c κs = (search left-below, search needs)
 
 cancelled-requires-2 : tie.Need-cancelled-requires-2
 cancelled-requires-2 c κs = search needs
 
-with-result-requires-5 : tie.Need-with-result-requires-5
-with-result-requires-5 c κs = (search left-below, search needs)
-
 cancelled-requires-3 : tie.Need-cancelled-requires-3
 cancelled-requires-3 c κs = search needs
-
-with-result-requires-6 : tie.Need-with-result-requires-6
-with-result-requires-6 c κs = (search left-below, search needs)
 
 cancelled-requires-4 : tie.Need-cancelled-requires-4
 cancelled-requires-4 c κs = search needs
 
-with-result-requires-7 : tie.Need-with-result-requires-7
-with-result-requires-7 c κs = (search left-below, search needs)
+add-with-value : tie.Need-add-with-value
+add-with-value c = search left-fits
 
-with-result-requires-8 : tie.Need-with-result-requires-8
-with-result-requires-8 c κs = (search left-below, search needs)
+with-value-requires : tie.Need-with-value-requires
+with-value-requires c κs = (search left-behind, search needs)
 
 returns : tie.Need-returns
-returns c = search (step-pair, operands-read)
-
-returns-2 : tie.Need-returns-2
-returns-2 c = search (step-part left, operands-read)
-
-returns-3 : tie.Need-returns-3
-returns-3 c = search (step-part right, operands-read)
-
-returns-4 : tie.Need-returns-4
-returns-4 c = search (step-encrypt Symmetric, operands-read)
-
-returns-5 : tie.Need-returns-5
-returns-5 c = search (step-decrypt Symmetric, operands-read)
-
-returns-6 : tie.Need-returns-6
-returns-6 c = search (step-encrypt Asymmetric, operands-read)
-
-returns-7 : tie.Need-returns-7
-returns-7 c = search (step-decrypt Asymmetric, operands-read)
-
-returns-8 : tie.Need-returns-8
-returns-8 c = search (step-form (c .before .match .rest), operands-read)
+returns c =
+    ⊎-elim (λ w. search (step-pair, operands-read))
+    (⊎-elim (λ w. search (step-part left, operands-read))
+    (⊎-elim (λ w. search (step-part right, operands-read))
+    (⊎-elim (λ w. search (step-encrypt Symmetric, operands-read))
+    (⊎-elim (λ w. search (step-decrypt Symmetric, operands-read))
+    (⊎-elim (λ w. search (step-encrypt Asymmetric, operands-read))
+    (⊎-elim (λ w. search (step-decrypt Asymmetric, operands-read))
+    (λ w. search (step-form (w .0 .rest), operands-read))))))))
+    (c .before .match .came)
 
 pub step-spec : {M : Type 1} → statement M
 step-spec =
@@ -112,25 +84,12 @@ step-spec =
     element-copy-out-b
     operands-at-requires
     joined-requires
-    with-result-requires
     parted-requires
-    with-result-requires-2
     parted-requires-2
-    with-result-requires-3
     cancelled-requires
-    with-result-requires-4
     cancelled-requires-2
-    with-result-requires-5
     cancelled-requires-3
-    with-result-requires-6
     cancelled-requires-4
-    with-result-requires-7
-    with-result-requires-8
-    returns
-    returns-2
-    returns-3
-    returns-4
-    returns-5
-    returns-6
-    returns-7
-    returns-8)
+    add-with-value
+    with-value-requires
+    returns)

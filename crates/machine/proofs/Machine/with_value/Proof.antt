@@ -4,6 +4,9 @@ use borrow.Author.Needs.{needs}
 use Rattle.machine.proofs.Machine.with_value.Statement.{statement}
 use Rattle.machine.proofs.Machine.with_value.Tie as tie
 
+value-of-requires : tie.Need-value-of-requires
+value-of-requires c κs = search needs
+
 index-requires : tie.Need-index-requires
 index-requires c κs = search needs
 
@@ -59,6 +62,7 @@ pub with-value-spec : {M : Type 1} → statement M
 with-value-spec =
     tie.close
     (tie.spec
+    value-of-requires
     index-requires
     add-self
     enum-known-found
