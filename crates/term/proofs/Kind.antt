@@ -67,9 +67,13 @@ pub atom : (n : ℕ) {r : Bool} → r ≡ choice ((1, true) ∷ []) (isKeyFor as
 unfolding shapeOf grow
 atom n e = e ∙ rw (← (key n refl)) (kind-column isAtomic ((1, true) ∷ (2, true) ∷ (3, true) ∷ []) refl refl n)
 
-pub builder : (n : ℕ) {r : ℕ} → r ≡ choice ((4, 0) ∷ (5, 3) ∷ (6, 5) ∷ []) rules n → r ≡ builderOf (shapeOf n)
+-- the rule that builds the kind n
+abbrev builders : Arms ℕ
+builders = (4, 0) ∷ (5, 3) ∷ (6, 5) ∷ []
+
+pub builder : (n : ℕ) {r : ℕ} → r ≡ choice builders rules n → r ≡ builderOf (shapeOf n)
 unfolding shapeOf grow
-builder n e = e ∙ kind-column builderOf ((4, 0) ∷ (5, 3) ∷ (6, 5) ∷ []) refl refl n
+builder n e = e ∙ kind-column builderOf builders refl refl n
 
 -- a kind has one operand where the rule that builds it has
 unary-rule : (o : Option Shape) → hasOne (builderOf o) ≡ isUnary o

@@ -66,13 +66,20 @@ rule-column : {A : Type 0} (c : Head → A) (l : Arms A) → listed (choice l (c
     (n : ℕ) → choice l (c (decrypt asymmetric)) n ≡ c (headOf n)
 rule-column c l e f n = choice-is l (c (decrypt asymmetric)) (λ n. c (headOf n)) rules e f (λ n b. ap c (head-past n b)) n
 
-pub one-operand : (n : ℕ) {r : Bool} → r ≡ choice ((1, true) ∷ (2, true) ∷ []) false n → r ≡ hasOne n
+-- the rules with one operand
+abbrev singles : Arms Bool
+singles = (1, true) ∷ (2, true) ∷ []
+
+pub one-operand : (n : ℕ) {r : Bool} → r ≡ choice singles false n → r ≡ hasOne n
 unfolding hasOne headOf grow
-one-operand n e = e ∙ rule-column single ((1, true) ∷ (2, true) ∷ []) refl refl n
+one-operand n e = e ∙ rule-column single singles refl refl n
 
 -- the rule that builds what the rule t takes apart
+abbrev takers : Arms (Option ℕ)
+takers = (1, some 0) ∷ (2, some 0) ∷ (4, some 3) ∷ (6, some 5) ∷ []
+
 abbrev taken : ℕ → Option ℕ
-taken t = choice ((1, some 0) ∷ (2, some 0) ∷ (4, some 3) ∷ (6, some 5) ∷ []) none t
+taken t = choice takers none t
 
 abbrev ruleOf? : Option Head → Option ℕ
 ruleOf? none = none
@@ -83,7 +90,7 @@ takenOf t = cond (isRule t) (takenBy (headOf t)) none
 
 taken-is : (t : ℕ) → taken t ≡ ruleOf? (takenOf t)
 unfolding headOf grow
-taken-is t = choice-is ((1, some 0) ∷ (2, some 0) ∷ (4, some 3) ∷ (6, some 5) ∷ []) none (λ t. ruleOf? (takenOf t)) rules refl refl (λ n b. rw (le-ltb n rules b)) t
+taken-is t = choice-is takers none (λ t. ruleOf? (takenOf t)) rules refl refl (λ n b. rw (le-ltb n rules b)) t
 
 rule-of : (b : ℕ) (o : Option Head) → is b (ruleOf? o) ≡ (isRule b && isHead (headOf b) o)
 rule-of b none = sym (and-false (isRule b))

@@ -1,13 +1,17 @@
 -- The pieces of a line, one after the other in a buffer: a law for each return of the functions that write them.
 use mathlib.Core.Path.{_≡_, subst}
-use mathlib.Core.Bool.{Bool, true, false}
+use mathlib.Core.Bool.{Bool, true, false, cond}
 use mathlib.Core.List.{List, [], _∷_, _++_, append-assoc}
-use Prim.Native.Nat.{ℕ, _+_, _≤_}
+use Prim.Native.Nat.{ℕ, _+_, _*_, _≤_, _<_}
 use native.Mathlib.Nat.{le-antisymm}
 use native.Mathlib.Numerals.{add-one}
+use native.Mathlib.Omega.{arith}
+use lib.Dec.{eqb}
+use lib.ListN.{getD}
 use borrow.Author.Tests.{ne-eqb}
+use Rattle.base.specs.Grow.{listed}
 use Rattle.term.specs.Rule.{rules, wordOf, hasOne}
-use Rattle.term.proofs.Numbered.{apart-past}
+use Rattle.term.proofs.Numbered.{same-below}
 use Rattle.term.proofs.Rule.{no-word}
 use Rattle.base.specs.Answer.{done}
 use Rattle.program.specs.Tests.{relationOf, relationWord}
@@ -23,12 +27,28 @@ use Rattle.text.proofs.theory.PutLaws.{puts-none, puts-then}
 pub register-put : {a b c : List ℕ} {i j k : ℕ} (r : ℕ) → Puts a i (0x72 ∷ []) b j → Puts b j (decimal r) c k → Puts a i (registerText r) c k
 register-put r p q = puts-then p q
 
--- a word picked by a number
-pub rule-put : {a b : List ℕ} {i j n rule : ℕ} → rule ≡ n → Puts a i (wordOf n) b j → Puts a i (wordOf rule) b j
-rule-put e p = rw e p
+-- a word of four letters, or of three before a space, letter by letter
+abbrev letters : ℕ → ℕ → ℕ → ℕ → List ℕ
+letters a b c d = a ∷ b ∷ c ∷ cond (eqb d 0x20) [] (d ∷ [])
 
-pub no-rule-put : {a : List ℕ} {i rule : ℕ} → (rule ≡ 0 → ⊥) → (rule ≡ 1 → ⊥) → (rule ≡ 2 → ⊥) → (rule ≡ 3 → ⊥) → (rule ≡ 4 → ⊥) → (rule ≡ 5 → ⊥) → (rule ≡ 6 → ⊥) → Puts a i (wordOf rule) a i
-no-rule-put {rule = rule} e0 e1 e2 e3 e4 e5 e6 = rw (no-word rule (apart-past rules rule (((((((tt, e0), e1), e2), e3), e4), e5), e6))) puts-none
+module _ {p0 p1 p2 p3 : List ℕ} {i0 i1 i2 i3 a b c d : ℕ} (l0 : Puts p0 i0 (a ∷ []) p1 i1) (l1 : Puts p1 i1 (b ∷ []) p2 i2) (l2 : Puts p2 i2 (c ∷ []) p3 i3) where
+  pub three-put : d ≡ 0x20 → Puts p0 i0 (letters a b c d) p3 i3
+  three-put e = rw e (puts-then (puts-then l0 l1) l2)
+
+  pub four-put : {p4 : List ℕ} {i4 : ℕ} → (d ≡ 0x20 → ⊥) → Puts p3 i3 (d ∷ []) p4 i4 → Puts p0 i0 (letters a b c d) p4 i4
+  four-put e l3 = rw (ne-eqb _ 0x20 e) (puts-then (puts-then (puts-then l0 l1) l2) l3)
+
+-- a rule's word in a table that has four bytes for each
+abbrev wordIn : List ℕ → ℕ → List ℕ
+wordIn words n = letters (getD words (4 * n) 0) (getD words (4 * n + 1) 0) (getD words (4 * n + 2) 0) (getD words (4 * n + 3) 0)
+
+module _ {rule k : ℕ} (e : k ≡ rule) where
+  pub no-rule-put : {a : List ℕ} {i : ℕ} → 4 * rules < 4 * k + 4 → Puts a i (wordOf rule) a i
+  no-rule-put l = rw (no-word rule (omega arith)) puts-none
+
+  pub rule-put : {a b : List ℕ} {i j : ℕ} (words : List ℕ) → 4 * k + 4 ≤ 4 * rules → Puts a i (wordIn words k) b j →
+      listed (wordIn words) rules ≡ listed wordOf rules → Puts a i (wordOf rule) b j
+  rule-put words l p t = rw (← e, ← (same-below (wordIn words) wordOf rules t k (omega arith))) p
 
 module _ {a : List ℕ} {i : ℕ} (letter : ℕ) {r v : Asked} (e : relationIn r ≡ relationOf letter) (k : r ≡ v) where
   pub relation-put : {b : List ℕ} {j : ℕ} → Puts a i (relationWord (relationIn v)) b j → Puts a i (relationWord (relationOf letter)) b j

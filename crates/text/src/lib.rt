@@ -1,12 +1,15 @@
 // The text that the program `verdict` prints, written into a buffer that the caller lends.
 // Promises: every function is total. What it writes is the text that a definition of specs/ gives, as far as the buffer reaches,
 // no other byte changes, and the result is the place reached (`Puts`).
+use base::wide;
 use base::wide16;
 use program::Asked;
 use term::rules;
 ghost use mathlib.Core.Path.{_≡_};
+ghost use mathlib.Core.Bool.{cond};
 ghost use mathlib.Core.List.{[], _∷_};
 ghost use Prim.Native.Nat.{_+_, _<_};
+ghost use lib.Dec.{eqb};
 ghost use Rattle.term.specs.Rule.{wordOf};
 ghost use Rattle.base.specs.Answer.{done};
 ghost use Rattle.program.specs.Tests.{relationOf, relationWord};
@@ -62,19 +65,29 @@ fn put_register(out: &mut [u8], at: usize, r: u16) -> usize
     put_number(out, next, r)
 }
 
+// A word of four letters, or of three before a space.
+fn put_letters(out: &mut [u8], at: usize, a: u8, b: u8, c: u8, d: u8) -> usize
+    ensures { λ r. ⌜ Puts (now (out .entry)) at (a ∷ b ∷ c ∷ cond (eqb d 32) [] (d ∷ [])) (now (out .exit)) r ⌝ }
+{
+    let at = put(out, at, a);
+    let at = put(out, at, b);
+    let at = put(out, at, c);
+    if d == b' ' {
+        return at;
+    }
+    put(out, at, d)
+}
+
+// A rule's word. Each has four bytes, in the order of the rules.
 fn put_rule(out: &mut [u8], at: usize, rule: u8) -> usize
     ensures { λ r. ⌜ Puts (now (out .entry)) at (wordOf rule) (now (out .exit)) r ⌝ }
 {
-    match rule {
-        rules::PAIR => put_word(out, at, b"pair"),
-        rules::FST => put_word(out, at, b"fst"),
-        rules::SND => put_word(out, at, b"snd"),
-        rules::ENC => put_word(out, at, b"enc"),
-        rules::DEC => put_word(out, at, b"dec"),
-        rules::ENCA => put_word(out, at, b"enca"),
-        rules::DECA => put_word(out, at, b"deca"),
-        _ => at,
+    let words = b"pairfst snd enc dec encadeca";
+    let i = 4 * wide(rule);
+    if words.len() < i + 4 {
+        return at;
     }
+    put_letters(out, at, words[i], words[i + 1], words[i + 2], words[i + 3])
 }
 
 // A space and the second register, where the rule has two operands.
