@@ -2,7 +2,6 @@ pub mod AnswerLaws
 pub mod BoolLaws
 pub mod First
 pub mod FirstGrowing
-pub mod Fit
 pub mod Grow
 pub mod Map
 pub mod Order

@@ -1,5 +1,5 @@
 -- What a call answers, and the order of checks: document 01, 'Verdicts'.
-use mathlib.Core.{Path._≡_, Bool.Bool, Bool.true, Bool.false, List.List, List._++_, Option.Option, Option.none, Option.some}
+use mathlib.Core.{Bool.Bool, Bool.true, Bool.false, List.List, List._++_, Option.Option, Option.none, Option.some}
 use Prim.Native.Nat.{ℕ}
 use lib.ListN.{length, drop}
 
@@ -38,8 +38,3 @@ answered (fails number place) a = refused number place
 abbrev pub pageAfter : Answer → List ℕ → List ℕ → List ℕ
 pageAfter (done n) bytes page = bytes ++ drop (length bytes) page
 pageAfter (refused number place) bytes page = page
-
--- what a call promises that answers r and leaves page′: the answer is a, and where it is done these bytes stand on the page
-pub record Writes (a : Answer) (written page : List ℕ) (r : Answer) (page′ : List ℕ) : Type 0 where
-  pub answer : r ≡ a
-  pub bytes : page′ ≡ pageAfter a written page

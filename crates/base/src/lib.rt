@@ -5,7 +5,8 @@ ghost use mathlib.Core.Path.{_≡_};
 ghost use Prim.Native.Nat.{_<_};
 ghost use Rattle.base.specs.Answer.{done, answered};
 ghost use Rattle.base.specs.Bytes.{byte as byteAt, word as wordAt};
-ghost use Rattle.base.specs.Code.{checkOf, answerOf};
+ghost use Rattle.base.specs.Code.{checkOf};
+ghost use Rattle.base.specs.Calls.{answerOf};
 
 // What a check answers: go on, or the refusal's number and place.
 pub enum Stage {

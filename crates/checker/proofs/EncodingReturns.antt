@@ -4,8 +4,9 @@ use mathlib.Core.List.{List}
 use Prim.Native.Nat.{ℕ, _+_, _*_}
 use Rattle.base.specs.declared.Answer.{Answer as AnswerGiven}
 use Rattle.base.specs.declared.Answer.the-variants as given
-use Rattle.base.specs.Code.{answerOf}
-use Rattle.base.specs.Answer.{Answer, Writes}
+use Rattle.base.specs.Calls.{answerOf}
+use Rattle.base.specs.Answer.{Answer}
+use Rattle.base.specs.Calls.{Writes}
 use Rattle.checker.specs.Calls.{encoded, WritesForC}
 
 pub encoded-done : {x : AnswerGiven} {n : ℕ} → x ≡ given.Done n → n ≡ encoded (answerOf x)

@@ -2,7 +2,7 @@
 use mathlib.Core.List.{List}
 use Prim.Native.Nat.{ℕ}
 use lib.ListN.{length}
-use Rattle.base.specs.Answer.{Answer, done, refused, Writes}
+use Rattle.base.specs.{Answer.Answer, Answer.done, Answer.refused, Calls.Writes}
 use Rattle.program.specs.Program.{bytesOf}
 use Rattle.conditions.specs.declared.Verdict.{Verdict}
 use Rattle.conditions.specs.declared.Verdict.the-variants.{Accepted, Refused}

@@ -16,7 +16,8 @@ ghost use Rattle.derivation.specs.Register.{written};
 ghost use Rattle.derivation.specs.Code.{Registered};
 ghost use Rattle.conditions.specs.Code.{Acceptable};
 ghost use Rattle.base.specs.Answer.{done, answered};
-ghost use Rattle.base.specs.Code.{checkOf, answerOf};
+ghost use Rattle.base.specs.Code.{checkOf};
+ghost use Rattle.base.specs.Calls.{answerOf};
 ghost use Rattle.conditions.specs.Check.{check11};
 ghost use Rattle.conditions.specs.Calls.{verdictAnswer, Checked};
 

@@ -13,7 +13,8 @@ use Rattle.base.specs.declared.Stage.the-variants.{Passed, Refused}
 use Rattle.base.specs.Answer.{done, refused, answered}
 use Rattle.base.specs.Bytes.{Bytes}
 use Rattle.submission.specs.Record.{terms}
-use Rattle.base.specs.Code.{checkOf, answerOf}
+use Rattle.base.specs.Code.{checkOf}
+use Rattle.base.specs.Calls.{answerOf}
 use Rattle.submission.specs.Check.{checks1to4}
 use Rattle.base.specs.declared.Answer.{Answer}
 use Rattle.deduction.specs.Computed.{built, entryMarks, isDeducible}

@@ -12,9 +12,8 @@ ghost use Prim.Native.Nat.{_<_};
 ghost use lib.ListN.{length};
 ghost use Rattle.base.specs.First.{first};
 ghost use Rattle.submission.specs.Record.{terms, recordAt, areInverse};
-ghost use Rattle.base.specs.Code.{answerOf};
 ghost use Rattle.deduction.specs.Computed.{entryMarks, isDeducible};
-ghost use Rattle.deduction.specs.Deduce.{deducibleAnswer};
+ghost use Rattle.deduction.specs.Calls.{Deduced};
 ghost use Rattle.deduction.specs.Code.{TableRead, marksOf, SameMarks, orNone, Inverses, partsOf, Memo, Decided, Unbuilt};
 ghost use Rattle.deduction.specs.Code.{OfTerms, OpensAs, opensBy, Settled, Exact, withMark, Swept, TakenApart};
 
@@ -339,7 +338,7 @@ fn is_deducible(s: &[u8], t: u8) -> bool
 
 // Whether term t is deducible from the knowledge of the submission: 1 for yes, 0 for no.
 pub fn deducible(s: &[u8], t: u8) -> Answer
-    ensures { λ r. ⌜ answerOf r ≡ deducibleAnswer (now (s .entry)) t ⌝ }
+    ensures { λ r. ⌜ Deduced (now (s .entry)) t r ⌝ }
 {
     let body = submission::check_body(s);
     let Stage::Passed = body else {

@@ -17,12 +17,12 @@ ghost use Rattle.base.specs.First.{first};
 ghost use Rattle.term.specs.Term.{pair, make};
 ghost use Rattle.term.specs.Term.{pick};
 ghost use Rattle.term.specs.Code.{ruleOf};
-ghost use Rattle.base.specs.Code.{answerOf};
 ghost use Rattle.base.specs.Bytes.{byte as byteAt};
 ghost use Rattle.submission.specs.Record.{terms as termCount, entries as entryCount, recordAt};
 ghost use Rattle.program.specs.Program.{testAt, badProgram};
 ghost use Rattle.program.specs.Code.{instructionIn};
-ghost use Rattle.machine.specs.Run.{executed as executedTerm, signals, runAnswer};
+ghost use Rattle.machine.specs.Run.{executed as executedTerm, signals};
+ghost use Rattle.machine.specs.Calls.{Ran};
 ghost use Rattle.machine.specs.Code.{sideOf, nodeFor, nodeOf, operandsOf, sameNode, partsOfOne, inverseNodes, matchNodes, isNodeFrom, foundOf, orFound, valueOf, when, values, Executable, Valued, Gives, SubmissionRead, knowledge, Loaded, Started, Running, Testable};
 
 // ---- Terms as nodes.
@@ -449,7 +449,7 @@ fn signal(program: &[u8], m: Machine) -> u16
 
 // The signal of a program on a submission, with a name for the guess; or the refusal of the first of checks 1 to 5 and 13 that fails.
 pub fn run(s: &[u8], name: u16, program: &[u8]) -> Answer
-    ensures { λ r. ⌜ answerOf r ≡ runAnswer (now (s .entry)) name (now (program .entry)) ⌝ }
+    ensures { λ r. ⌜ Ran (now (s .entry)) name (now (program .entry)) r ⌝ }
 {
     let reading = submission::check_reading(s);
     let Reading::Good(_claim) = reading else {

@@ -8,6 +8,7 @@ use Rattle.term.specs.Term.{plain, public, private, Cipher, symmetric, a
 use Rattle.term.specs.Code.{builds, Message}
 use Rattle.term.specs.Term.{pick}
 use Rattle.term.specs.Reduce.{op}
+use Rattle.term.specs.Fresh.{Fresh}
 use Rattle.term.specs.Step.{Step, Undoes}
 use Rattle.term.proofs.Reduce.{Atomic, atom-not-node, part-self, part-node, match-det, match-sym, Reduces, op-cases, step-op, step-det}
 use Rattle.term.proofs.Reach.{Reach, stepped, reach-message, reach-fresh}
@@ -46,8 +47,7 @@ module _ (K : Term → Type 0) (D : Head → Term → Term → Term → Type 0) 
     pub sound : (h : Head) (p q t : Term) → D h p q t → Step h p q t
     pub messages : (t : Term) → K t → Message t
     pub w-atom : Atomic w
-    pub w-fresh : (t : Term) → K t → Part w t → ⊥
-    pub w-inverse-fresh : (t : Term) → K t → Part (inverse w) t → ⊥
+    pub is-fresh : Fresh K w
 
   -- A register of the term t may hold the value v: the term itself where it is reached without the guess, the tried value for the guess,
   -- or what a step of the derivation formed, with w in it.
@@ -64,13 +64,13 @@ module _ (K : Term → Type 0) (D : Head → Term → Term → Term → Type 0) 
     pub once : single h ≡ true → v ≡ u
 
   module _ (fresh : FreshGuess) where
-    open FreshGuess fresh using (sound, messages, w-atom, w-fresh, w-inverse-fresh)
+    open FreshGuess fresh using (sound, messages, w-atom, is-fresh)
 
     inverse-atomic : Atomic (inverse w)
     inverse-atomic = let e = w-atom .2 in subst (λ z. Atomic (inverse z)) (sym e) (_, w-atom .1, refl)
 
     clean-fresh : {t v : Term} → Reach K t → v ≡ t → Part w v → ⊥
-    clean-fresh r e i = reach-fresh K w w-atom w-fresh r (subst (Part w) e i)
+    clean-fresh r e i = reach-fresh K w w-atom (is-fresh .apart) r (subst (Part w) e i)
 
     -- a value is clean, or has w in it: it is tainted
     status : {t v : Term} → MayHold t v → (Reach K t × (v ≡ t)) ⊎ Part w v
@@ -80,7 +80,7 @@ module _ (K : Term → Type 0) (D : Head → Term → Term → Term → Type 0) 
 
     -- the inverse of the key that is tried is in no value
     no-inverse : isKey w → {t v : Term} → MayHold t v → Part (inverse w) v → ⊥
-    no-inverse k (clean r e) i = reach-fresh K (inverse w) inverse-atomic w-inverse-fresh r (subst (Part (inverse w)) e i)
+    no-inverse k (clean r e) i = reach-fresh K (inverse w) inverse-atomic (is-fresh .inverseApart) r (subst (Part (inverse w)) e i)
     no-inverse k (tried e f) i = key-apart w k (part-atomic (inverse w) w w-atom (subst (Part (inverse w)) f i))
     no-inverse k (formed h p q a b d x y j e) i =
         ⊎-elim (no-inverse k x) (no-inverse k y) (part-node (inverse w) h a b inverse-atomic (subst (Part (inverse w)) e i))
@@ -137,7 +137,7 @@ module _ (K : Term → Type 0) (D : Head → Term → Term → Term → Type 0) 
     encrypted-fresh : (c : Cipher) {p v r k b : Term} → v ≡ node (make (encryption c)) r k → Match c k b → Part w v ⊎ Part w b → Reach K p → v ≡ p → ⊥
     encrypted-fresh c f m (inl i) x e = clean-fresh x e i
     encrypted-fresh c {p} {v = v} {r} {k} {b} f m (inr i) x e =
-        ⊎-elim (out w w-atom w-fresh) (out (inverse w) inverse-atomic w-inverse-fresh) (match-part c w k b m i)
+        ⊎-elim (out w w-atom (is-fresh .apart)) (out (inverse w) inverse-atomic (is-fresh .inverseApart)) (match-part c w k b m i)
       where
         out : (z : Term) → Atomic z → ((t : Term) → K t → Part z t → ⊥) → Part z k → ⊥
         out z l o j = reach-fresh K z l o x (subst (Part z) (sym f ∙ e) (inr (inr j)))
@@ -235,7 +235,7 @@ module _ (K : Term → Type 0) (D : Head → Term → Term → Term → Type 0) 
 
       -- way b: a value at the start is another, that of the knowledge and the tried one
       pub at-start-differs : (z : Term) → K z ⊎ (z ≡ w) → op h v u ≡ z → ⊥
-      at-start-differs z (inl k) e = w-fresh z k (subst (Part w) (sym verified ∙ e) (inr taint))
+      at-start-differs z (inl k) e = is-fresh .apart z k (subst (Part w) (sym verified ∙ e) (inr taint))
       at-start-differs z (inr k) e = atom-not-node w-atom (sym k ∙ sym e ∙ verified)
 
       -- way c: the value is no key

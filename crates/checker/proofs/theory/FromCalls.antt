@@ -8,14 +8,16 @@ use Rattle.base.specs.declared.Answer.{Answer as AnswerGiven}
 use Rattle.base.specs.declared.Answer.the-variants as given
 use Rattle.base.specs.Answer.{Answer, done, refused, passes, pageAfter}
 use Rattle.base.specs.Bytes.{Bytes}
-use Rattle.base.specs.Code.{answerOf}
+use Rattle.base.specs.Calls.{answerOf}
 use Rattle.term.specs.Step.{Deducible}
 use Rattle.submission.specs.Record.{terms, steps, guess, nameAt, term, InKnowledge}
 use Rattle.submission.specs.Check.{checks1to4}
 use Rattle.deduction.specs.Deduce.{deducibleAnswer}
+use Rattle.deduction.specs.Calls.{Deduced}
 use Rattle.deduction.proofs.theory.DeducibleAnswer.{yes-exact, no-exact}
 use Rattle.program.specs.Program.{bytesOf, programLength}
 use Rattle.machine.specs.Run.{runAnswer}
+use Rattle.machine.specs.Calls.{Ran}
 use Rattle.conditions.specs.declared.Verdict.{Verdict}
 use Rattle.conditions.specs.declared.Verdict.the-variants.{Accepted, Refused}
 use Rattle.conditions.specs.Calls.{verdictAnswer, Checked}
@@ -56,7 +58,7 @@ module _ (s page page′ : List ℕ) (v : Verdict) (bytes : Bytes s) (call : Che
       (check-refusals s (length page) number place a, call .bytes ∙ ap (λ x. pageAfter x (bytesOf (program s)) page) a)
 
   -- and a call of `run` with what an acceptance left, the same submission and a name, that returned r
-  module _ (n name : ℕ) (accepted : v ≡ Accepted n) (r : AnswerGiven) (ran : answerOf r ≡ runAnswer s name (take (programLength n) page′)) where
+  module _ (n name : ℕ) (accepted : v ≡ Accepted n) (r : AnswerGiven) (ran : Ran s name (take (programLength n) page′) r) where
     pub run-right : name ≡ nameAt s (guess s) → r ≡ given.Done 1
     run-right e = same-answer r 1 (ran ∙ ap (λ k. runAnswer s k (take (programLength n) page′)) e ∙ call-keeps n accepted .right)
 
@@ -64,7 +66,7 @@ module _ (s page page′ : List ℕ) (v : Verdict) (bytes : Bytes s) (call : Che
     run-wrong w = same-answer r 0 (ran ∙ call-keeps n accepted .wrong name w)
 
 -- ---- a call of `deducible` on s and the number t that returned r
-module _ (s : List ℕ) (t : ℕ) (r : AnswerGiven) (bytes : Bytes s) (call : answerOf r ≡ deducibleAnswer s t) where
+module _ (s : List ℕ) (t : ℕ) (r : AnswerGiven) (bytes : Bytes s) (call : Deduced s t r) where
   told : (n : ℕ) → (r ≡ given.Done n) ↔ (deducibleAnswer s t ≡ done n)
   told n = (λ e. sym call ∙ ap answerOf e, λ e. same-answer r n (call ∙ e))
 

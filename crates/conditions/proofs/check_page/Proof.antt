@@ -1,4 +1,4 @@
--- `checker::check_page` meets its contract: the page is measured against 3N+4.
+-- `check_page` meets its contract: the page is measured against 3N+4.
 use Rattle.conditions.proofs.CheckReturns.{page-short, page-enough}
 use borrow.Author.Needs.{needs}
 use Rattle.conditions.proofs.check_page.Statement.{statement}

@@ -166,8 +166,7 @@ module _ (s : List ℕ) (bytes : Bytes s) (w : WellFormed s) (c : FiveConditions
           sound = λ h p q t m. rw (m .2, m .3, m .4, m .5) (shaped (m .0) (m .1) .step);
           messages = λ t k. rw (k .2) (claim .read .messages (entryAt s (k .0)) (claim .read .entry-below (k .0) (k .1)));
           w-atom = (_, name, refl);
-          w-fresh = wrong .fresh .apart;
-          w-inverse-fresh = wrong .fresh .inverseApart;
+          is-fresh = wrong .fresh;
         }
 
     executed : (i : ℕ) → i < steps s → {v u : Term} → May (firstPremise s i) v → May (secondPremise s i) u → (single (rule s i) ≡ true → v ≡ u) →

@@ -19,7 +19,8 @@ use Rattle.base.specs.Answer.{done, refused, passes, answered}
 use Rattle.base.specs.Bytes.{Bytes, byte}
 use Rattle.submission.specs.Record.{entries}
 use Rattle.submission.specs.Check.{checks1to5}
-use Rattle.base.specs.Code.{checkOf, answerOf}
+use Rattle.base.specs.Code.{checkOf}
+use Rattle.base.specs.Calls.{answerOf}
 use Rattle.machine.specs.declared.Node.{Node}
 use Rattle.machine.specs.declared.Machine.{Machine}
 use Rattle.base.specs.declared.Answer.{Answer}

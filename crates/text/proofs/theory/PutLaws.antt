@@ -26,9 +26,6 @@ puts-length {a} {b} {text} {i} p = rw (p .bytes) (length-sets a i text)
 pub puts-none : {a : List ℕ} {i : ℕ} → Puts a i [] a i
 puts-none = record { bytes = refl; place = omega arith }
 
-pub puts-byte : (a : List ℕ) (i b : ℕ) → i < length a → Puts a i (b ∷ []) (set a i b) (i + 1)
-puts-byte a i b h = record { bytes = refl; place = omega arith }
-
 pub puts-full : (a : List ℕ) (i b : ℕ) → length a ≤ i → Puts a i (b ∷ []) a i
 puts-full a i b h = record { bytes = sym (sets-past a i (b ∷ []) h); place = omega arith }
 

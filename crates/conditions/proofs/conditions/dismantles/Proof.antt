@@ -1,4 +1,4 @@
--- `checker::conditions::dismantles` meets its contract: the rules, then the term.
+-- `dismantles` meets its contract: the rules, then the term.
 use Rattle.base.proofs.TestChains.{chain}
 use Rattle.base.proofs.BoolLaws.{flag}
 use borrow.Author.Needs.{needs}

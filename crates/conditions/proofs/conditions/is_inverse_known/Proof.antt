@@ -1,4 +1,4 @@
--- `checker::conditions::is_inverse_known` meets its contract: one test a return.
+-- `is_inverse_known` meets its contract: one test a return.
 use Rattle.base.proofs.TestChains.{chain}
 use Rattle.conditions.proofs.SecondWayTests.{ways}
 use Rattle.base.proofs.Scan.{scan}

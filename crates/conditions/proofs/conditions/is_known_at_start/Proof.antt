@@ -1,4 +1,4 @@
--- `checker::conditions::is_known_at_start` meets its contract: the registers before step 0 are those of the knowledge and the guess.
+-- `is_known_at_start` meets its contract: the registers before step 0 are those of the knowledge and the guess.
 use Rattle.conditions.proofs.SecondWayTests.{ways}
 use Rattle.base.proofs.Scan.{scan}
 use borrow.Author.Needs.{needs}

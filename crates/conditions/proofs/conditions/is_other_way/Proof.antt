@@ -1,4 +1,4 @@
--- `checker::conditions::is_other_way` meets its contract: one test a return.
+-- `is_other_way` meets its contract: one test a return.
 use Rattle.conditions.proofs.SecondWayTests.{premises}
 use Rattle.base.proofs.Scan.{scan}
 use borrow.Author.Needs.{needs}

@@ -1,4 +1,4 @@
--- `checker::conditions::same_premises` meets its contract: one test a return.
+-- `same_premises` meets its contract: one test a return.
 use Rattle.base.proofs.TestChains.{chain}
 use Rattle.conditions.specs.Computed.{samePremises}
 use Rattle.base.proofs.Scan.{scan}

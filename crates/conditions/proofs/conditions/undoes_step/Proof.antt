@@ -1,4 +1,4 @@
--- `checker::conditions::undoes_step` meets its contract: step j dismantles step i, or the reverse.
+-- `undoes_step` meets its contract: step j dismantles step i, or the reverse.
 use Rattle.conditions.proofs.UndoneTests.{undoing}
 use borrow.Author.Needs.{needs}
 use Rattle.conditions.proofs.conditions.undoes_step.Statement.{statement}
