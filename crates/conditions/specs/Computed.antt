@@ -7,7 +7,7 @@ use Rattle.submission.specs.{Record.steps, Record.ruleAt, Record.pAt, Record.co
 use Rattle.derivation.specs.{Register.isKnown, Step.secondAt}
 use Rattle.deduction.specs.Computed.{entryMarks, isDeducible}
 
--- 8 reachable: "condition 3 broken"; every premise of the verifying step is deducible from the knowledge, in which the guess does not count
+-- condition 3 is broken: every premise of the verifying step is deducible from the knowledge, in which the guess does not count
 unfoldable pub reachable : List ℕ → Bool
 reachable s =
     isDeducible s (entryMarks s) (pAt s (verifying s)) && isDeducible s (entryMarks s) (secondAt s (verifying s))
@@ -20,7 +20,7 @@ unfoldable pub samePremises : List ℕ → ℕ → ℕ → Bool
 samePremises s i j =
     (isPremise s j (pAt s i) && isPremise s j (secondAt s i)) && (isPremise s i (pAt s j) && isPremise s i (secondAt s j))
 
--- 9 no second way: "condition 4 broken". Before step 0 the knowledge and the guess are known.
+-- condition 4 holds. Before step 0 the knowledge and the guess are known.
 abbrev pub hasSecondWay : List ℕ → Option Way → Bool
 hasSecondWay s none = false
 hasSecondWay s (some another-step) =
@@ -33,7 +33,7 @@ hasSecondWay s (some inverse-key) = areInverse s (conclusionAt s (verifying s)) 
 abbrev pub dismantles : ℕ → ℕ → ℕ → ℕ → Bool
 dismantles r p b t = ruleTakesApart r b && eqb p t
 
--- 10 undone: "condition 5 broken", place "lowest undone step". Step j undoes step i.
+-- step j undoes step i
 unfoldable pub undoesStep : List ℕ → ℕ → ℕ → Bool
 undoesStep s j i =
     dismantles (ruleAt s j) (pAt s j) (ruleAt s i) (conclusionAt s i) || dismantles (ruleAt s i) (pAt s i) (ruleAt s j) (conclusionAt s j)
@@ -43,5 +43,6 @@ abbrev pub companionUndoes : List ℕ → Option Way → ℕ → Bool
 companionUndoes s none i = false
 companionUndoes s (some w) i = row w .companionKept && undoesStep s (companion s) i
 
+-- step i is undone: condition 5 is broken
 unfoldable pub undone : List ℕ → ℕ → Bool
 undone s i = undoesStep s (verifying s) i || companionUndoes s (wayOf (wayAt s)) i

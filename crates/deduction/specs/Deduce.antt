@@ -1,6 +1,5 @@
--- Deducible as a computed answer: document 01, 'Dolev-Yao steps' and row 12 of 'Verdicts'.
--- Terms are first taken apart, as far as the keys that can be built allow; a term is deducible when it can be built from what that reaches.
--- That this is what finite lists of steps reach is a theorem of this crate.
+-- The answer of deducible: document 01, 'Dolev-Yao steps' and row 12 of 'Verdicts'. How it is computed is in `Computed`; that it is yes exactly
+-- for what finite lists of steps reach is a theorem, `yes-exact` and `no-exact`.
 use mathlib.Core.{Path._≡_, Bool.Bool, Bool.true, Bool.not, Bool.cond, List.List}
 use Prim.Native.Nat.{ℕ, _<_}
 use lib.Dec.{ltb}

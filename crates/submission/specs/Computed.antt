@@ -1,4 +1,4 @@
--- Freshness for the knowledge, as a test.
+-- Freshness for the knowledge, as a test; `says-fresh` says that it is freshness.
 use mathlib.Core.{Bool.Bool, Bool._&&_, Bool.not, List.List}
 use Rattle.base.specs.First.{any}
 use Prim.Native.Nat.{ℕ}
