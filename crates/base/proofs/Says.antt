@@ -7,7 +7,7 @@ use Prim.Native.Nat.{ℕ, _<_}
 use lib.Dec.{eqb, ltb}
 use native.Mathlib.Omega.{arith}
 use borrow.Author.Tests.{ltb-true, eqb-true, lt-ltb, eq-eqb}
-use Rattle.base.specs.First.{first, any, isSome}
+use Rattle.base.specs.{Lists.first, Lists.any, Code.isSome}
 use Rattle.base.proofs.First.{first-none, first-some, passed-all}
 
 abbrev pub Says : Bool → Type 0 → Type 0

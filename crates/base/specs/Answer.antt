@@ -1,7 +1,5 @@
 -- What a call answers, and the order of checks: document 01, 'Verdicts'.
-use mathlib.Core.{Bool.Bool, Bool.true, Bool.false, List.List, List._++_, Option.Option, Option.none, Option.some}
-use Prim.Native.Nat.{ℕ}
-use lib.ListN.{length, drop}
+use Rattle.base.specs.Words.{Bool, true, false, List, _++_, Option, none, some, ℕ, length, drop}
 
 -- "An acceptance carries N"; deducible's yes and no are 1 and 0, and so is the signal.
 -- "Every refusal carries number and place."

@@ -1,4 +1,5 @@
--- What a stage of the code means in document 01's terms.
+-- What a stage of the code means in document 01's terms, and a notion that only proofs use.
+use Rattle.base.specs.Words.{Bool, true, false, Option, none, some, ℕ}
 use Rattle.base.specs.declared.Stage.{Stage}
 use Rattle.base.specs.declared.Stage.the-variants.{Passed, Refused}
 use Rattle.base.specs.Answer.{Check, passes, fails}
@@ -7,3 +8,8 @@ use Rattle.base.specs.Answer.{Check, passes, fails}
 abbrev pub checkOf : Stage → Check
 checkOf Passed = passes
 checkOf (Refused number place) = fails number place
+
+-- a place was found
+abbrev pub isSome : Option ℕ → Bool
+isSome none = false
+isSome (some i) = true

@@ -1,6 +1,5 @@
 pub mod Answer
-pub mod Bytes
 pub mod Calls
 pub mod Code
-pub mod First
-pub mod Grow
+pub mod Lists
+pub mod Words

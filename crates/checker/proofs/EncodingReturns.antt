@@ -6,8 +6,9 @@ use Rattle.base.specs.declared.Answer.{Answer as AnswerGiven}
 use Rattle.base.specs.declared.Answer.the-variants as given
 use Rattle.base.specs.Calls.{answerOf}
 use Rattle.base.specs.Answer.{Answer}
-use Rattle.base.specs.Calls.{Writes}
-use Rattle.checker.specs.Calls.{encoded, WritesForC}
+use Rattle.conditions.specs.declared.Verdict.{Verdict}
+use Rattle.conditions.specs.Calls.{verdictAnswer, Checked}
+use Rattle.checker.specs.Calls.{encoded, Encoded}
 
 pub encoded-done : {x : AnswerGiven} {n : ℕ} → x ≡ given.Done n → n ≡ encoded (answerOf x)
 encoded-done e = rw e
@@ -19,5 +20,5 @@ encoded-refused e = rw e
 pub encoded-as : {x : Answer} (a : Answer) {r : ℕ} → x ≡ a → r ≡ encoded x → r ≡ encoded a
 encoded-as a e g = g ∙ ap encoded e
 
-pub written-as : {a x y : Answer} {written page page′ : List ℕ} {r : ℕ} → Writes a written page x page′ → y ≡ x → r ≡ encoded y → WritesForC a written page r page′
-written-as h e g = record { answer = g ∙ ap encoded (e ∙ h .answer); bytes = h .bytes }
+pub written-as : (s : List ℕ) {page page′ : List ℕ} (v : Verdict) {y : Answer} {r : ℕ} → Checked s page v page′ → y ≡ verdictAnswer v → r ≡ encoded y → Encoded s page r page′
+written-as s v h e g = record { answer = g ∙ ap encoded (e ∙ h .answer); bytes = h .bytes }

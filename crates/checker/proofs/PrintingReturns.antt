@@ -5,7 +5,7 @@ use Prim.Native.Nat.{ℕ, _<_}
 use native.Mathlib.Omega.{arith}
 use lib.ListN.{replicate, length-replicate}
 use Rattle.base.specs.Answer.{Answer, done, refused}
-use Rattle.base.specs.Bytes.{Bytes}
+use Rattle.base.specs.Lists.{Bytes}
 use Rattle.submission.specs.Record.{entries}
 use Rattle.submission.proofs.theory.ListedTerms.{claimed}
 use Rattle.text.specs.Text.{answerText, refusedText}
@@ -15,7 +15,7 @@ use Rattle.conditions.specs.declared.Verdict.{Verdict}
 use Rattle.conditions.specs.declared.Verdict.the-variants.{Accepted, Refused}
 use Rattle.conditions.specs.Check.{checkAnswer}
 use Rattle.conditions.specs.Page.{pageChecked}
-use Rattle.checker.specs.Text.{verdictText}
+use Rattle.checker.specs.Calls.{verdictText}
 use Rattle.conditions.specs.Calls.{verdictAnswer, Checked}
 use Rattle.checker.specs.Calls.{Printed}
 use Rattle.conditions.proofs.theory.Acceptance.{accepted-iff}

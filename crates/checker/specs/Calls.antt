@@ -1,26 +1,22 @@
 -- What the calls promise that stand in this crate: those for C, and `write_verdict`.
-use mathlib.Core.{Path._≡_, List.List}
-use Prim.Native.Nat.{ℕ, _+_, _*_, _≤_}
-use lib.ListN.{length, take}
-use Rattle.base.specs.Answer.{Answer, done, refused, pageAfter}
-use Rattle.text.specs.Puts.{Puts}
+use Rattle.base.specs.{Words._≡_, Words.List, Words.ℕ, Words._+_, Words._*_, Words._≤_, Words.length, Words.take, Words.replicate, Answer.Answer, Answer.done, Answer.refused, Calls.Writes}
+use Rattle.submission.specs.Record.{entries}
+use Rattle.text.specs.{Puts.Puts, Text.answerText}
 use Rattle.program.specs.Program.{bytesOf}
-use Rattle.conditions.specs.{Check.checkAnswer, Page.program}
-use Rattle.checker.specs.Text.{verdictText}
+use Rattle.conditions.specs.{Check.checkAnswer, Page.program, Page.pageChecked}
 
 -- an answer as one number for C: a refusal is its number and its place, 16 bits wide; what is done is its value
 abbrev pub encoded : Answer → ℕ
 encoded (done n) = n
 encoded (refused number place) = number * 65536 + place
 
--- what a call for C promises that writes a page: the number r is the answer a, and where it is done these bytes stand on the page
-pub record WritesForC (a : Answer) (written page : List ℕ) (r : ℕ) (page′ : List ℕ) : Type 0 where
-  pub answer : r ≡ encoded a
-  pub bytes : page′ ≡ pageAfter a written page
-
--- `checker_check`
+-- `checker_check`: the number r is the answer, and the page is that of checking
 abbrev pub Encoded : List ℕ → List ℕ → ℕ → List ℕ → Type 0
-Encoded s page r page′ = WritesForC (checkAnswer s (length page)) (bytesOf (program s)) page r page′
+Encoded s page r page′ = Writes (λ a. r ≡ encoded a) (checkAnswer s (length page)) (bytesOf (program s)) page page′
+
+-- what the program `verdict` prints of a submission, "with a page of 388 bytes": document 01, after 'Marked examples'
+unfoldable pub verdictText : List ℕ → List ℕ
+verdictText s = answerText (entries s) (checkAnswer s 388) (pageChecked s (replicate 388 0))
 
 -- `write_verdict`: the text is in the buffer, as far as that reaches, and whole in one of 4,096 bytes
 pub record Printed (s out : List ℕ) (r : ℕ) (out′ : List ℕ) : Type 0 where

@@ -12,10 +12,10 @@ use Rattle.submission.specs.declared.Reading.the-variants.{Good, Refused as Rea
 use Rattle.submission.specs.Code.{IsClaim, readingCheck, ReadingIs}
 use Rattle.base.specs.declared.Stage.{Stage}
 use Rattle.base.specs.declared.Stage.the-variants as stage
-use Rattle.base.specs.Answer.{Answer, done, refused, Check, passes, fails, andThen, answered}
-use Rattle.base.specs.Bytes.{byte}
+use Rattle.base.specs.Answer.{Answer, done, refused, Check, passes, fails, andThen, answered, failsIf, failsAt}
+use Rattle.base.specs.Lists.{byte, first}
 use Rattle.submission.specs.Code.{Limited}
-use Rattle.submission.specs.Record.{steps}
+use Rattle.submission.specs.Record.{steps, verifying, wayAt}
 use Rattle.submission.specs.Check.{checks1to5}
 use Rattle.base.specs.Code.{checkOf}
 use Rattle.base.proofs.AnswerLaws.{if-passes}
@@ -27,30 +27,34 @@ use Rattle.derivation.specs.Code.{Registered, StepsChecked}
 use Rattle.program.specs.Program.{bytesOf, programLength}
 use Rattle.conditions.specs.declared.Verdict.{Verdict}
 use Rattle.conditions.specs.declared.Verdict.the-variants.{Accepted, Refused}
-use Rattle.conditions.specs.Check.{check8, check9, check10, check11, checks1to10, checkAnswer}
+use Rattle.conditions.specs.Check.{checks1to10, checkAnswer}
 use Rattle.conditions.specs.Page.{program}
 use Rattle.conditions.specs.Calls.{verdictAnswer, Checked}
 use Rattle.conditions.specs.Code.{Founded, Acceptable}
 use Rattle.conditions.proofs.theory.ProgramRun.{program-bytes}
+use Rattle.conditions.specs.Computed.{reachable, hasSecondWay, undone}
+use lib.Dec.{ltb}
+use mathlib.Core.Bool.{not}
+use Rattle.submission.specs.Way.{wayOf}
 
 -- ---- check 11
 module _ (s page : List ℕ) {n k : ℕ} (e : n ≡ steps s) (f : k ≡ programLength n) where
   needed : k ≡ programLength (steps s)
   needed = f ∙ ap programLength e
 
-  pub page-short : length page < k → fails 11 k ≡ check11 s (length page)
+  pub page-short : length page < k → fails 11 k ≡ failsIf (ltb (length page) (programLength (steps s))) 11 (programLength (steps s))
   page-short l = let m : length page < programLength (steps s) = rw (← needed) l in rw (lt-ltb _ _ m, needed)
 
-  pub page-enough : k ≤ length page → passes ≡ check11 s (length page)
+  pub page-enough : k ≤ length page → passes ≡ failsIf (ltb (length page) (programLength (steps s))) 11 (programLength (steps s))
   page-enough l = let m : programLength (steps s) ≤ length page = rw (← needed) l in rw (le-ltb _ _ m)
 
-pub page-room : (s page : List ℕ) {u : Stage} → checkOf u ≡ check11 s (length page) → u ≡ stage.Passed → programLength (steps s) ≤ length page
+pub page-room : (s page : List ℕ) {u : Stage} → checkOf u ≡ failsIf (ltb (length page) (programLength (steps s))) 11 (programLength (steps s)) → u ≡ stage.Passed → programLength (steps s) ≤ length page
 page-room s page e q = ltb-false _ _ (if-passes _ 11 (programLength (steps s)) .0 (stage-passes _ e q))
 
 -- ---- the answer and the page where every check is known
 module _ (s page : List ℕ) where
   all : Check
-  all = andThen (checks1to10 s) (check11 s (length page))
+  all = andThen (checks1to10 s) (failsIf (ltb (length page) (programLength (steps s))) 11 (programLength (steps s)))
 
   refused-out : (number place : ℕ) (v : Verdict) → all ≡ fails number place → verdictAnswer v ≡ refused number place → Checked s page v page
   unfolding all checkAnswer
@@ -99,7 +103,7 @@ module _ (s : List ℕ) {r : Reading} (reading : ReadingIs s (checks1to5 s) r) w
         pub steps-founded : ((i : ℕ) → Fits w8 (byte s i)) → Founded s
         steps-founded f = record { bytes = bytes s f; read = reading-passes; founded = stage-passes _ (each .answer) passed }
 
-        module _ {t : Stage} (conditions : checkOf t ≡ andThen (check8 s) (andThen (check9 s) (check10 s))) where
+        module _ {t : Stage} (conditions : checkOf t ≡ andThen (failsIf (reachable s) 8 (verifying s)) (andThen (failsIf (not (hasSecondWay s (wayOf (wayAt s)))) 9 (verifying s)) (failsAt 10 (first (undone s) (steps s))))) where
           pub conditions-out : (page : List ℕ) (n : ℕ) {a b : ℕ} (v : Verdict) → t ≡ stage.Refused a b → verdictAnswer v ≡ answered (checkOf t) (done n) → Checked s page v page
           unfolding all checks1to10
           conditions-out page n {a} {b} v q f =
@@ -114,7 +118,7 @@ module _ (s : List ℕ) {r : Reading} (reading : ReadingIs s (checks1to5 s) r) w
             met-acceptable f = record { bytes = bytes s f; passed = met-passes }
 
 -- ---- a submission that passed checks 1 to 10
-module _ {s : List ℕ} (h : Acceptable s) (page : List ℕ) {u : Stage} (room : checkOf u ≡ check11 s (length page)) where
+module _ {s : List ℕ} (h : Acceptable s) (page : List ℕ) {u : Stage} (room : checkOf u ≡ failsIf (ltb (length page) (programLength (steps s))) 11 (programLength (steps s))) where
   pub page-out : (n : ℕ) {a b : ℕ} (v : Verdict) → u ≡ stage.Refused a b → verdictAnswer v ≡ answered (checkOf u) (done n) → Checked s page v page
   unfolding all
   page-out n {a} {b} v q f = refused-out s page a b v (rw (h .passed, said a b room q)) (of-refusal n a b f q)

@@ -1,12 +1,12 @@
 -- What holds of a submission that passed checks 1 to 7, of one that passed checks 1 to 10, and of its records as the code reads them.
 use mathlib.Core.Path.{_≡_}
-use mathlib.Core.Bool.{Bool, true, _&&_, cond}
+use mathlib.Core.Bool.{Bool, true, _&&_, cond, not}
 use mathlib.Core.List.{List}
 use Prim.Native.Nat.{ℕ, _<_}
 use Rattle.base.proofs.Says.{not-not-false}
 use Rattle.term.specs.Rule.{hasOne}
 use Rattle.submission.specs.declared.Claim.{Claim}
-use Rattle.base.specs.Answer.{fails, failsIf}
+use Rattle.base.specs.Answer.{fails, failsIf, failsAt}
 use Rattle.submission.specs.Code.{Limited}
 use Rattle.submission.specs.Record.{terms, steps, verifying, wayAt}
 use Rattle.submission.specs.Way.{wayOf}
@@ -16,14 +16,16 @@ use Rattle.base.proofs.AnswerLaws.{then-passes, if-passes}
 use Rattle.submission.proofs.PassedChecks.{limited, body-passes}
 use Rattle.submission.proofs.theory.ListedTerms.{Claimed, claimed}
 use Rattle.derivation.specs.declared.Step.{Step}
-use Rattle.derivation.specs.Step.{secondAt, checkSteps}
+use Rattle.submission.specs.Record.{secondAt}
+use Rattle.derivation.specs.Step.{checkSteps, StepFits}
 use Rattle.derivation.specs.Code.{IsStep}
-use Rattle.derivation.proofs.theory.StepMeaning.{SoundStep, sound, steps-pass}
+use Rattle.derivation.proofs.theory.StepMeaning.{second-listed, fits-iff, steps-pass}
 use Rattle.deduction.specs.Computed.{entryMarks, isDeducible}
 use Rattle.deduction.specs.Code.{TableRead}
-use Rattle.conditions.specs.Computed.{reachable, hasSecondWay}
-use Rattle.conditions.specs.Check.{check8, check9, check10, checks1to10}
+use Rattle.conditions.specs.Computed.{reachable, hasSecondWay, undone}
+use Rattle.conditions.specs.Check.{checks1to10}
 use Rattle.conditions.specs.Code.{Founded, Acceptable}
+use Rattle.base.specs.Lists.{first}
 
 -- the second premise of step i, read off its record
 pub second-is : {s : List ℕ} {i r : ℕ} {a : Step} → IsStep s i a → r ≡ cond (hasOne (a .rule)) (a .p) (a .q) → r ≡ secondAt s i
@@ -43,16 +45,16 @@ module _ {s : List ℕ} (h : Founded s) where
 
   -- the premises of the verifying step
   module _ {c : Claim} {a : Step} (k : IsClaim s c) (x : IsStep s (c .step) a) where
-    verifying-sound : SoundStep s (c .step)
+    verifying-sound : StepFits s (c .step)
     verifying-sound =
         let l : c .step < steps s = rw (k .step) (founded-claimed .verifying-below) in
-        sound (founded-claimed .read) (c .step) (steps-pass s .0 (h .founded) (c .step) l .0)
+        fits-iff (founded-claimed .read) (c .step) .0 (steps-pass s .0 (h .founded) (c .step) l .0)
 
     pub first-below : a .p < terms s
     first-below = rw (x .first) (verifying-sound .p-below)
 
     pub second-below : {u : ℕ} → u ≡ cond (hasOne (a .rule)) (a .p) (a .q) → u < terms s
-    second-below e = rw (second-is x e) (verifying-sound .second-below)
+    second-below e = rw (second-is x e) (second-listed verifying-sound)
 
 -- ---- check 8
 pub reachable-is : {s : List ℕ} {c : Claim} {a : Step} {u : ℕ} {r : Bool} → IsClaim s c → IsStep s (c .step) a → u ≡ cond (hasOne (a .rule)) (a .p) (a .q) →
@@ -82,5 +84,5 @@ module _ {s : List ℕ} (h : Acceptable s) where
   second-way =
       let (r, t) = then-passes (checks1to5 s) _ .0 (h .passed) in
       let (r, t) = then-passes (checkSteps s) _ .0 t in
-      let (r, t) = then-passes (check8 s) _ .0 t in
-      not-not-false _ .0 (if-passes _ 9 (verifying s) .0 (then-passes (check9 s) (check10 s) .0 t .0))
+      let (r, t) = then-passes (failsIf (reachable s) 8 (verifying s)) _ .0 t in
+      not-not-false _ .0 (if-passes _ 9 (verifying s) .0 (then-passes (failsIf (not (hasSecondWay s (wayOf (wayAt s)))) 9 (verifying s)) (failsAt 10 (first (undone s) (steps s))) .0 t .0))

@@ -2,14 +2,14 @@
 use mathlib.Core.Path.{_≡_, sym, ap, _∙_}
 use mathlib.Core.Bool.{Bool, true, false}
 use mathlib.Core.List.{List, _++_}
-use mathlib.Core.Option.{some}
+use mathlib.Core.Option.{none, some}
 use Prim.Native.Nat.{ℕ, _+_, _≤_, _<_}
 use native.Mathlib.Omega.{arith}
 use lib.ListN.{getD, set, drop}
 use Rattle.base.proofs.Says.{says-true, says-and}
 use Rattle.term.specs.Rule.{hasOne}
 use Rattle.submission.specs.declared.Claim.{Claim}
-use Rattle.submission.specs.Record.{steps, pAt, qAt, conclusionAt, verifying, wayAt, companion, areInverse}
+use Rattle.submission.specs.{Record.steps, Record.pAt, Record.qAt, Record.conclusionAt, Record.verifying, Record.wayAt, Record.companion, Computed.areInverse}
 use Rattle.submission.specs.declared.Row.{Row as RowRead}
 use Rattle.submission.specs.declared.Operand.{Operand as OperandRead}
 use Rattle.submission.specs.declared.Operand.the-variants.{VerifyingResult, CompanionResult, LowestConclusion, LowestCompanion}
@@ -19,8 +19,9 @@ use Rattle.term.specs.Code.{relationIs}
 use Rattle.program.specs.Tests.{rowOf}
 use Rattle.derivation.specs.declared.Step.{Step}
 use Rattle.derivation.specs.declared.Registers.{Registers}
-use Rattle.derivation.specs.Register.{written, every, isKnown}
-use Rattle.derivation.specs.Step.{secondAt, unfounded}
+use Rattle.derivation.specs.{Register.written, Register.every, Computed.isKnown}
+use Rattle.submission.specs.Record.{secondAt}
+use Rattle.derivation.specs.Computed.{unfounded}
 use Rattle.derivation.specs.Code.{IsStep, Registered}
 use Rattle.derivation.proofs.theory.StepMeaning.{steps-pass}
 use Rattle.derivation.proofs.theory.KnownPremises.{first-known, second-known, known-held, known-stays}
@@ -30,7 +31,7 @@ use Rattle.program.specs.declared.Program.{Program as ProgramRead}
 use Rattle.program.specs.Program.{bytesOf, programLength}
 use Rattle.program.specs.Code.{instructionIn, testIn, programIn}
 use Rattle.program.proofs.theory.Value.{Holds, holds-more, holds-all, held-count}
-use Rattle.conditions.specs.Page.{orZero, lowest, resultRegister, named, instruction, claimTest, program}
+use Rattle.conditions.specs.Page.{lowest, named, instruction, program, testFor}
 use Rattle.conditions.specs.Code.{Acceptable, Held}
 use Rattle.conditions.proofs.PassedFacts.{second-is, founded-claimed, acceptable-founded, acceptable-limited, second-way}
 use Rattle.conditions.proofs.theory.ProgramRun.{program-steps}
@@ -39,7 +40,7 @@ use Rattle.conditions.proofs.theory.ProgramRun.{program-steps}
 module _ {s : List ℕ} {g : Registers} (h : Acceptable s) (w : Registered s (written s (steps s)) g) where
   known-register : (i t : ℕ) → i ≤ steps s → t < 256 → isKnown s i t ≡ true → getD (g .first) t 0 ≡ lowest s t
   unfolding lowest
-  known-register i t l b k = sym (ap orZero (known-held every s i t l k w b))
+  known-register i t l b k = sym (ap (λ o. elim o [ none ↦ 0 | some r ↦ r ]) (known-held every s i t l k w b))
 
   -- the instruction of step i
   module _ {i : ℕ} {a : Step} (x : IsStep s i a) (l : i < steps s) {b : Bool} {f : ℕ} (e : f ≡ getD (g .first) (a .p) 0) (q : b ≡ hasOne (a .rule)) where
@@ -90,8 +91,7 @@ module _ {s : List ℕ} (h : Acceptable s) where
     right-held = rw (ap (λ z. z .against) e) (tested-held (wayIs (c .way)) (k .way) .1)
 
     pub test-is : {l a b : ℕ} → l ≡ rowOf (relationIs (x .relation)) .letter → a ≡ named s (operandIs (x .tested)) → b ≡ named s (operandIs (x .against)) →
-        record { letter = l; left = a; right = b } ≡ claimTest s
-    unfolding claimTest
+        record { letter = l; left = a; right = b } ≡ testFor s (wayOf (wayAt s))
     test-is f a b = rw (k .way, f, a, b, ← e)
 
 -- ---- one operand
@@ -102,10 +102,10 @@ module _ {s : List ℕ} {g : Registers} (h : Acceptable s) (w : Registered s (wr
   pub companion-few : o ≡ CompanionResult → c .companion < 128
   companion-few e = rw (k .other) (one-of-steps h _ (rw e at held))
 
-  pub names-verifying : {r : ℕ} → o ≡ VerifyingResult → r ≡ resultRegister s (c .step) → r ≡ named s (operandIs o)
+  pub names-verifying : {r : ℕ} → o ≡ VerifyingResult → r ≡ written s (c .step) → r ≡ named s (operandIs o)
   names-verifying e f = rw (e, ← (k .step)) f
 
-  pub names-companion : {r : ℕ} → o ≡ CompanionResult → r ≡ resultRegister s (c .companion) → r ≡ named s (operandIs o)
+  pub names-companion : {r : ℕ} → o ≡ CompanionResult → r ≡ written s (c .companion) → r ≡ named s (operandIs o)
   names-companion e f = rw (e, ← (k .other)) f
 
   pub names-conclusion : {r t : ℕ} → o ≡ LowestConclusion → t ≡ conclusionAt s (c .step) → r ≡ getD (g .first) t 0 → r ≡ named s (operandIs o)
@@ -128,7 +128,7 @@ module _ (s : List ℕ) {n i : ℕ} (e : n ≡ steps s) where
   pub step-held : {xs : List InstructionRead} {x : InstructionRead} {k : ℕ} → Acceptable s → Holds (instruction s) i xs → i < n → instructionIn x ≡ instruction s i → k ≡ i → Holds (instruction s) (i + 1) (set xs k x)
   step-held h w l = holds-more w (omega (arith, acceptable-limited h .steps))
 
-  pub all-held : {xs : List InstructionRead} {t : TestRead} → Holds (instruction s) i xs → i ≤ n → n ≤ i → testIn t ≡ claimTest s → programIn (record { instructions = xs; count = n; test = t }) ≡ program s
+  pub all-held : {xs : List InstructionRead} {t : TestRead} → Holds (instruction s) i xs → i ≤ n → n ≤ i → testIn t ≡ testFor s (wayOf (wayAt s)) → programIn (record { instructions = xs; count = n; test = t }) ≡ program s
   unfolding program
   all-held w a b f = let q : i ≡ n = omega arith in holds-all (rw q at w) f ∙ rw e
 

@@ -1,18 +1,15 @@
 -- Condition 5, one test at a time: the steps that the verifying step or the companion undoes.
 use mathlib.Core.Path.{_≡_, sym, ap, _∙_}
-use mathlib.Core.Bool.{Bool, true, false, cond}
+use mathlib.Core.Bool.{Bool, true, false}
 use mathlib.Core.List.{List}
-use mathlib.Core.Option.{none, some}
 use Prim.Native.Nat.{ℕ}
-use lib.Dec.{eqb}
-use borrow.Author.Tests.{ne-eqb}
 use Rattle.submission.specs.declared.Claim.{Claim}
 use Rattle.submission.specs.declared.Row.{Row as RowRead}
 use Rattle.submission.specs.Way.{row}
 use Rattle.submission.specs.Code.{wayIs, rowIs, IsClaim}
 use Rattle.derivation.specs.declared.Step.{Step}
 use Rattle.derivation.specs.Code.{IsStep}
-use Rattle.conditions.specs.Computed.{dismantles, undoesStep, companionUndoes, undone}
+use Rattle.conditions.specs.Computed.{dismantles, undoesStep, undone}
 
 -- ---- a step undoes another: steps j and i, whose records are a and b
 module _ {s : List ℕ} {j i : ℕ} {a b : Step} (h : IsStep s j a) (k : IsStep s i b) {x : Bool} (e : x ≡ dismantles (a .rule) (a .p) (b .rule) (b .conclusion)) where

@@ -1,8 +1,5 @@
 -- What the call `check` promises.
-use mathlib.Core.List.{List}
-use Prim.Native.Nat.{ℕ}
-use lib.ListN.{length}
-use Rattle.base.specs.{Answer.Answer, Answer.done, Answer.refused, Calls.Writes}
+use Rattle.base.specs.{Words._≡_, Words.List, Words.ℕ, Words.length, Answer.Answer, Answer.done, Answer.refused, Calls.Writes}
 use Rattle.program.specs.Program.{bytesOf}
 use Rattle.conditions.specs.declared.Verdict.{Verdict}
 use Rattle.conditions.specs.declared.Verdict.the-variants.{Accepted, Refused}
@@ -15,4 +12,4 @@ verdictAnswer (Refused number place) = refused number place
 
 -- the verdict r and the page afterwards: the answer of checking, and where it is done the submission's register program
 abbrev pub Checked : List ℕ → List ℕ → Verdict → List ℕ → Type 0
-Checked s page r page′ = Writes (checkAnswer s (length page)) (bytesOf (program s)) page (verdictAnswer r) page′
+Checked s page r page′ = Writes (λ a. verdictAnswer r ≡ a) (checkAnswer s (length page)) (bytesOf (program s)) page page′

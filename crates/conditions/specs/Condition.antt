@@ -1,32 +1,13 @@
 -- The five conditions, as propositions about terms: document 01, 'The five conditions'. Nothing here is computed.
-use mathlib.Core.{Path._≡_, Logic._⊎_, Logic._↔_, List.List, Option.Option, Option.none, Option.some, Bool.false}
-use Prim.Native.Nat.{ℕ, _<_}
-use Rattle.term.specs.{Term.Head, Term.Term, Term.isKey, Term.inverse, Rule.headOf, Step.Deducible, Step.Undoes}
-use Rattle.base.specs.Answer.{passes}
-use Rattle.submission.specs.{Record.steps, Record.ruleAt, Record.pAt, Record.conclusionAt, Record.guess, Record.verifying, Record.wayAt, Record.companion, Record.term, Record.InKnowledge, Way.Way, Way.another-step, Way.at-start, Way.inverse-key, Way.wayOf, Check.checks1to5}
-use Rattle.derivation.specs.Step.{secondAt, badStep}
+use Rattle.base.specs.{Words._≡_, Words._⊎_, Words._↔_, Words.List, Words.Option, Words.none, Words.some, Words.ℕ, Words._<_, Answer.passes}
+use Rattle.term.specs.{Term.Term, Term.isKey, Term.inverse, Step.Deducible, Step.Undoes}
+use Rattle.submission.specs.{Record.steps, Record.guess, Record.verifying, Record.wayAt, Record.companion, Record.term, Record.InKnowledge, Way.Way, Way.another-step, Way.at-start, Way.inverse-key, Way.wayOf, Check.checks1to5}
+use Rattle.derivation.specs.Step.{rule, firstPremise, secondPremise, concluded, StepFits, Known, StepFounded}
 
 -- "a submission is well formed when it passes checks 1 to 5 and every step passes check 6"
 pub record WellFormed (s : List ℕ) : Type 0 where
   pub read : checks1to5 s ≡ passes
-  pub shaped : (i : ℕ) → i < steps s → badStep s i ≡ false
-
--- the rule, the two premises and the conclusion of step i, as terms
-abbrev pub rule : List ℕ → ℕ → Head
-rule s i = headOf (ruleAt s i)
-
-abbrev pub firstPremise : List ℕ → ℕ → Term
-firstPremise s i = term s (pAt s i)
-
-abbrev pub secondPremise : List ℕ → ℕ → Term
-secondPremise s i = term s (secondAt s i)
-
-abbrev pub concluded : List ℕ → ℕ → Term
-concluded s i = term s (conclusionAt s i)
-
--- "A premise is known if it is in the knowledge, is the guess, or was concluded by an earlier step": t is known before step i
-abbrev pub Known : List ℕ → ℕ → Term → Type 0
-Known s i t = InKnowledge s t ⊎ ((t ≡ term s (guess s)) ⊎ ((j : ℕ) × (j < i) × (t ≡ concluded s j)))
+  pub shaped : (i : ℕ) → i < steps s → StepFits s i
 
 -- x is in the premise set of step i; S is that of the verifying step
 abbrev pub Premise : List ℕ → ℕ → Term → Type 0
@@ -54,7 +35,7 @@ UndoesNone s j = (i : ℕ) → i < steps s → Undoes (rule s j) (firstPremise s
 
 pub record FiveConditions (s : List ℕ) : Type 0 where
   -- 1. "Every step is founded."
-  pub founded : (i : ℕ) → i < steps s → Known s i (firstPremise s i) × Known s i (secondPremise s i)
+  pub founded : (i : ℕ) → i < steps s → StepFounded s i
   -- 2. "The verifying step is one of the derivation."
   pub present : verifying s < steps s
   -- 3. "Some member of S is not deducible from the knowledge without the guess."

@@ -1,12 +1,10 @@
 -- Demands 2 and 3, of checking. What the definitions promise; the contracts of the calls say that the code answers what they give.
-use mathlib.Core.{Path._≡_, Logic._↔_, List.List}
-use Prim.Native.Nat.{ℕ, _≤_}
-use lib.ListN.{length, take, drop}
-use Rattle.base.specs.{Answer.done, Bytes.Bytes}
-use Rattle.submission.specs.Record.{steps, guess, nameAt}
+use Rattle.base.specs.{Words._≡_, Words._↔_, Words.List, Words.ℕ, Words._≤_, Words.length, Words.take, Words.drop, Answer.done, Lists.Bytes}
+use Rattle.term.specs.Term.{Fresh}
+use Rattle.submission.specs.Record.{steps, guess, nameAt, InKnowledge}
 use Rattle.program.specs.Program.{bytesOf, programLength}
-use Rattle.machine.specs.Run.{runAnswer}
-use Rattle.conditions.specs.{Check.checkAnswer, Condition.WellFormed, Condition.FiveConditions, Page.program, Page.pageChecked, Wrong.WrongGuess}
+use Rattle.machine.specs.Run.{guessed, runAnswer}
+use Rattle.conditions.specs.{Check.checkAnswer, Condition.WellFormed, Condition.FiveConditions, Page.program, Page.pageChecked}
 
 -- Demand 2: "A submission is accepted exactly when it is well formed, meets the five conditions of document 01 and has a page long
 -- enough", and the acceptance carries N.
@@ -14,6 +12,12 @@ abbrev pub Demand2 : Type 0
 Demand2 =
     (s : List ℕ) → Bytes s → (room n : ℕ) →
     (checkAnswer s room ≡ done n) ↔ ((n ≡ steps s) × WellFormed s × FiveConditions s × (programLength (steps s) ≤ room))
+
+-- A wrong guess: "all other atoms of the guess's kind, except one that is part of a message in the knowledge or the inverse of a key that
+-- is such a part": the name is another one, and its atom is fresh
+pub record WrongGuess (s : List ℕ) (name : ℕ) : Type 0 where
+  pub other : name ≡ nameAt s (guess s) → ⊥
+  pub fresh : Fresh (InKnowledge s) (guessed s name)
 
 -- what is promised of the page after an acceptance that carries n: page is the page before it, page′ the one after it
 pub record KeptPromise (s page : List ℕ) (n : ℕ) (page′ : List ℕ) : Type 0 where

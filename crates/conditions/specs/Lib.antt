@@ -5,4 +5,3 @@ pub mod Computed
 pub mod Condition
 pub mod Demand
 pub mod Page
-pub mod Wrong

@@ -1,25 +1,14 @@
 -- The register program of a derivation, and the page after checking: document 01, 'The register program' and 'Verdicts'.
-use mathlib.Core.{Bool.cond, List.List, Option.Option, Option.none, Option.some}
-use Prim.Native.Nat.{ℕ}
-use lib.ListN.{length}
-use Rattle.base.specs.{Grow.listed, Answer.pageAfter}
+use Rattle.base.specs.{Words.cond, Words.List, Words.Option, Words.none, Words.some, Words.ℕ, Words.length, Lists.listed, Answer.pageAfter}
 use Rattle.term.specs.Rule.{hasOne}
 use Rattle.submission.specs.{Record.steps, Record.ruleAt, Record.pAt, Record.qAt, Record.conclusionAt, Record.verifying, Record.wayAt, Record.companion, Way.Way, Way.wayOf, Way.Operand, Way.verifying-result, Way.companion-result, Way.lowest-conclusion, Way.lowest-companion, Way.row}
-use Rattle.derivation.specs.Register.{written, lowestOf}
+use Rattle.derivation.specs.Register.{written, lowestAmong, every}
 use Rattle.program.specs.{Tests.rowOf, Program.Instruction, Program.Test, Program.Program, Program.bytesOf}
 use Rattle.conditions.specs.Check.{checkAnswer}
 
--- "K+1+i the result of step i"
-abbrev pub resultRegister : List ℕ → ℕ → ℕ
-resultRegister s i = written s i
-
-abbrev pub orZero : Option ℕ → ℕ
-orZero none = 0
-orZero (some r) = r
-
 -- the lowest register that holds the term t
 unfoldable pub lowest : List ℕ → ℕ → ℕ
-lowest s t = orZero (lowestOf s (written s (steps s)) t)
+lowest s t = elim (lowestAmong every s (written s (steps s)) t) [ none ↦ 0 | some r ↦ r ]
 
 -- "per step the rule number and two registers (second 0 for rules 1, 2)"; "A premise is taken from its lowest register."
 unfoldable pub instruction : List ℕ → ℕ → Instruction
@@ -32,8 +21,8 @@ instruction s i =
 
 -- the register that a test of the claim names
 abbrev pub named : List ℕ → Operand → ℕ
-named s verifying-result = resultRegister s (verifying s)
-named s companion-result = resultRegister s (companion s)
+named s verifying-result = written s (verifying s)
+named s companion-result = written s (companion s)
 named s lowest-conclusion = lowest s (conclusionAt s (verifying s))
 named s lowest-companion = lowest s (companion s)
 
@@ -42,12 +31,9 @@ abbrev pub testFor : List ℕ → Option Way → Test
 testFor s none = record { letter = 0; left = 0; right = 0 }
 testFor s (some w) = record { letter = rowOf (row w .relation) .letter; left = named s (row w .tested); right = named s (row w .against) }
 
-unfoldable pub claimTest : List ℕ → Test
-claimTest s = testFor s (wayOf (wayAt s))
-
 -- document 01's register program for the submission
 unfoldable pub program : List ℕ → Program
-program s = record { steps = listed (instruction s) (steps s); test = claimTest s }
+program s = record { steps = listed (instruction s) (steps s); test = testFor s (wayOf (wayAt s)) }
 
 -- The page after checking. "An acceptance .. changes the first 3N+4 bytes of the page only."
 unfoldable pub pageChecked : List ℕ → List ℕ → List ℕ

@@ -6,19 +6,21 @@ use submission::Claim;
 use submission::Way;
 use term::rules;
 ghost use mathlib.Core.Path.{_≡_};
-ghost use mathlib.Core.Bool.{_&&_};
+ghost use mathlib.Core.Bool.{_&&_, not};
 ghost use Rattle.submission.specs.Code.{Limited};
-ghost use Rattle.submission.specs.Record.{steps, pAt, wayAt, areInverse};
+ghost use Rattle.submission.specs.Record.{steps, pAt, wayAt, verifying};
+ghost use Rattle.submission.specs.Computed.{areInverse};
 ghost use Rattle.submission.specs.Way.{wayOf};
-ghost use Rattle.base.specs.Answer.{andThen};
+ghost use Rattle.base.specs.Answer.{andThen, failsIf, failsAt};
 ghost use Rattle.base.specs.Code.{checkOf};
 ghost use Rattle.submission.specs.Code.{IsClaim};
-ghost use Rattle.derivation.specs.Register.{written, isKnown};
-ghost use Rattle.derivation.specs.Step.{secondAt};
+ghost use Rattle.derivation.specs.Register.{written};
+ghost use Rattle.derivation.specs.Computed.{isKnown};
+ghost use Rattle.submission.specs.Record.{secondAt};
 ghost use Rattle.derivation.specs.Code.{Registered};
 ghost use Rattle.conditions.specs.Computed.{reachable, isPremise, samePremises, hasSecondWay, dismantles as dismantlesBy, undoesStep, undone};
-ghost use Rattle.conditions.specs.Check.{check8, check9, check10};
 ghost use Rattle.conditions.specs.Code.{Founded, otherWay};
+ghost use Rattle.base.specs.Lists.{first};
 
 // Condition 3 broken: both premises of the verifying step are deducible from the knowledge, without the guess.
 fn is_reachable(s: &[u8], claim: Claim) -> bool
@@ -35,7 +37,7 @@ fn is_reachable(s: &[u8], claim: Claim) -> bool
 fn check_reachable(s: &[u8], claim: Claim) -> Stage
     requires { ⌜ Founded (now s) ⌝ }
     requires { ⌜ IsClaim (now s) claim ⌝ }
-    ensures { λ r. ⌜ checkOf r ≡ check8 (now (s .entry)) ⌝ }
+    ensures { λ r. ⌜ checkOf r ≡ failsIf (reachable (now (s .entry))) 8 (verifying (now (s .entry))) ⌝ }
 {
     if is_reachable(s, claim) {
         return Stage::Refused {
@@ -135,7 +137,7 @@ fn check_second_way(s: &[u8], registers: Registers, claim: Claim) -> Stage
     requires { ⌜ Limited (now s) ⌝ }
     requires { ⌜ Registered (now s) (written (now s) (steps (now s))) registers ⌝ }
     requires { ⌜ IsClaim (now s) claim ⌝ }
-    ensures { λ r. ⌜ checkOf r ≡ check9 (now (s .entry)) ⌝ }
+    ensures { λ r. ⌜ checkOf r ≡ failsIf (not (hasSecondWay (now (s .entry)) (wayOf (wayAt (now (s .entry)))))) 9 (verifying (now (s .entry))) ⌝ }
 {
     if has_second_way(s, registers, claim) {
         return Stage::Passed;
@@ -187,7 +189,7 @@ fn is_undone(s: &[u8], claim: Claim, i: u8) -> bool
 // Check 10.
 fn check_undone(s: &[u8], claim: Claim) -> Stage
     requires { ⌜ IsClaim (now s) claim ⌝ }
-    ensures { λ r. ⌜ checkOf r ≡ check10 (now (s .entry)) ⌝ }
+    ensures { λ r. ⌜ checkOf r ≡ failsAt 10 (first (undone (now (s .entry))) (steps (now (s .entry)))) ⌝ }
 {
     let n = submission::steps(s);
     let mut i: u8 = 0;
@@ -208,7 +210,7 @@ pub fn check_conditions(s: &[u8], registers: Registers, claim: Claim) -> Stage
     requires { ⌜ Founded (now s) ⌝ }
     requires { ⌜ Registered (now s) (written (now s) (steps (now s))) registers ⌝ }
     requires { ⌜ IsClaim (now s) claim ⌝ }
-    ensures { λ r. ⌜ checkOf r ≡ andThen (check8 (now (s .entry))) (andThen (check9 (now (s .entry))) (check10 (now (s .entry)))) ⌝ }
+    ensures { λ r. ⌜ checkOf r ≡ andThen (failsIf (reachable (now (s .entry))) 8 (verifying (now (s .entry)))) (andThen (failsIf (not (hasSecondWay (now (s .entry)) (wayOf (wayAt (now (s .entry)))))) 9 (verifying (now (s .entry)))) (failsAt 10 (first (undone (now (s .entry))) (steps (now (s .entry)))))) ⌝ }
 {
     let reachable = check_reachable(s, claim);
     let Stage::Passed = reachable else {

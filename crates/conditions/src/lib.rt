@@ -15,11 +15,12 @@ ghost use Rattle.submission.specs.Code.{IsClaim};
 ghost use Rattle.derivation.specs.Register.{written};
 ghost use Rattle.derivation.specs.Code.{Registered};
 ghost use Rattle.conditions.specs.Code.{Acceptable};
-ghost use Rattle.base.specs.Answer.{done, answered};
+ghost use Rattle.base.specs.Answer.{done, answered, failsIf};
 ghost use Rattle.base.specs.Code.{checkOf};
 ghost use Rattle.base.specs.Calls.{answerOf};
-ghost use Rattle.conditions.specs.Check.{check11};
 ghost use Rattle.conditions.specs.Calls.{verdictAnswer, Checked};
+ghost use lib.Dec.{ltb};
+ghost use Rattle.program.specs.Program.{programLength};
 
 // An acceptance carries the count of steps, a refusal its number and place.
 pub enum Verdict {
@@ -49,7 +50,7 @@ pub fn answer_of(verdict: Verdict) -> Answer
 
 // Check 11.
 fn check_page(s: &[u8], page: &[u8]) -> Stage
-    ensures { λ r. ⌜ checkOf r ≡ check11 (now (s .entry)) (length (now (page .entry))) ⌝ }
+    ensures { λ r. ⌜ checkOf r ≡ failsIf (ltb (length (now (page .entry))) (programLength (steps (now (s .entry))))) 11 (programLength (steps (now (s .entry)))) ⌝ }
 {
     let needed = program::program_length(submission::steps(s));
     if page.len() < needed as usize {

@@ -11,14 +11,15 @@ ghost use mathlib.Core.List.{_++_};
 ghost use Prim.Native.Nat.{_≤_, _<_};
 ghost use lib.ListN.{length, drop};
 ghost use Rattle.submission.specs.Code.{Limited};
-ghost use Rattle.submission.specs.Record.{steps, conclusionAt};
+ghost use Rattle.submission.specs.Record.{steps, conclusionAt, wayAt};
 ghost use Rattle.submission.specs.Code.{operandIs, IsClaim};
 ghost use Rattle.derivation.specs.Register.{written};
 ghost use Rattle.derivation.specs.Code.{Registered};
 ghost use Rattle.program.specs.Program.{bytesOf, programLength};
 ghost use Rattle.program.specs.Code.{instructionIn, testIn, programIn};
-ghost use Rattle.conditions.specs.Page.{resultRegister, instruction, named as namedBy, claimTest, program};
+ghost use Rattle.conditions.specs.Page.{instruction, named as namedBy, program, testFor};
 ghost use Rattle.conditions.specs.Code.{Acceptable, Held};
+ghost use Rattle.submission.specs.Way.{wayOf};
 
 // The instruction of step i: each premise is taken from its lowest register.
 fn instruction_of(s: &[u8], registers: Registers, i: u8) -> Instruction
@@ -48,7 +49,7 @@ fn instruction_of(s: &[u8], registers: Registers, i: u8) -> Instruction
 fn result_register(s: &[u8], i: u8) -> u8
     requires { ⌜ Limited (now s) ⌝ }
     requires { ⌜ i < 128 ⌝ }
-    ensures { λ r. ⌜ r ≡ resultRegister (now (s .entry)) i ⌝ }
+    ensures { λ r. ⌜ r ≡ written (now (s .entry)) i ⌝ }
 {
     submission::entries(s) + 1 + i
 }
@@ -82,7 +83,7 @@ fn claim_test(s: &[u8], registers: Registers, claim: Claim) -> Test
     requires { ⌜ Acceptable (now s) ⌝ }
     requires { ⌜ Registered (now s) (written (now s) (steps (now s))) registers ⌝ }
     requires { ⌜ IsClaim (now s) claim ⌝ }
-    ensures { λ r. ⌜ testIn r ≡ claimTest (now (s .entry)) ⌝ }
+    ensures { λ r. ⌜ testIn r ≡ testFor (now (s .entry)) (wayOf (wayAt (now (s .entry)))) ⌝ }
 {
     let way = claim.way;
     let row = submission::row_of(way);

@@ -11,7 +11,7 @@ use borrow.Author.Tests.{eq-eqb, ne-eqb, lt-ltb, le-ltb}
 use Rattle.base.specs.declared.Stage.{Stage}
 use Rattle.base.specs.declared.Stage.the-variants.{Passed, Refused}
 use Rattle.base.specs.Answer.{done, refused, answered}
-use Rattle.base.specs.Bytes.{Bytes}
+use Rattle.base.specs.Lists.{Bytes}
 use Rattle.submission.specs.Record.{terms}
 use Rattle.base.specs.Code.{checkOf}
 use Rattle.base.specs.Calls.{answerOf}

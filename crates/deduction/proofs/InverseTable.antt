@@ -5,11 +5,10 @@ use mathlib.Core.List.{List}
 use mathlib.Core.Option.{Option, none, some}
 use Prim.Native.Nat.{ℕ, _+_, _≤_, _<_}
 use native.Mathlib.Omega.{arith}
-use lib.Dec.{eqb}
 use lib.ListN.{length, getD, set, length-set}
 use lib.Seq.{getD-set-same, getD-set-other}
 use borrow.Author.Count.{below-more}
-use Rattle.base.specs.First.{first}
+use Rattle.base.specs.Lists.{first}
 use Rattle.base.proofs.First.{Passed, passed-hit, passed-all, first-none, first-some}
 use Rattle.base.proofs.Says.{Says, says-and, says-any, says-true, same-test, denies}
 use Rattle.term.specs.Term.{asymmetric, isKeyFor}
@@ -18,10 +17,11 @@ use Rattle.term.proofs.Kind.{no-inverse}
 use Rattle.term.proofs.Reduce.{match-det}
 use Rattle.submission.specs.declared.Term.{Term}
 use Rattle.submission.specs.Code.{IsTerm}
-use Rattle.submission.specs.Record.{terms, areInverse}
+use Rattle.submission.specs.{Record.terms, Computed.areInverse}
 use Rattle.deduction.specs.Computed.{built, opens}
 use Rattle.deduction.specs.Code.{TableRead, orNone, Inverses}
 use Rattle.deduction.proofs.MarkArrays.{facts}
+use Rattle.submission.specs.Record.{term}
 
 -- ---- finding them
 module _ {p : ℕ → Bool} {n i : ℕ} (N : ℕ) (e : n ≡ N) (s : Passed p n i) where
@@ -94,7 +94,7 @@ module _ {s inverses : List ℕ} (v : TableRead s) (u : Inverses s (terms s) inv
             λ m. same-test (opens asymmetric s m y) (built s m j) (says-key m) (
               λ t. (j, b, (a, t)),
               λ (i, c, (p, q)).
-                  let x : i ≡ j = z .same-number i j c b (match-det (z .inverse-iff y i l c .0 p) (z .inverse-iff y j l b .0 a)) in
+                  let x : i ≡ j = z .same-number i j c b (match-det asymmetric (term s y) (term s i) (term s j) (z .inverse-iff y i l c .0 p) (z .inverse-iff y j l b .0 a)) in
                   subst (λ n. built s m n ≡ true) x q,
             ),
           )

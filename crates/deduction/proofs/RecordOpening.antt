@@ -11,7 +11,7 @@ use borrow.Author.Tests.{ne-eqb, eqb-true, eqb-false}
 use Rattle.base.proofs.BoolLaws.{and-right}
 use Rattle.base.proofs.Says.{says-eqb, says-or, says-and, says-true}
 use Rattle.term.specs.Term.{symmetric, asymmetric, Form, pair, encryption, Head, make, Shape, atomic, compound}
-use Rattle.term.specs.Kind.{shapeOf, kindOf}
+use Rattle.term.specs.{Kind.shapeOf, Computed.kindOf}
 use Rattle.term.proofs.Kind.{shape-kind, kind-shape}
 use Rattle.term.specs.Table.{branch}
 use Rattle.term.proofs.Table.{part-below}
@@ -20,7 +20,7 @@ use Rattle.submission.specs.Code.{IsTerm}
 use Rattle.submission.specs.Record.{terms, kindAt, xAt, yAt, nameAt, recordOf, recordAt}
 use Rattle.deduction.specs.declared.Opening.{Opening}
 use Rattle.deduction.specs.declared.Opening.the-variants.{Freely, With, Shut}
-use Rattle.deduction.specs.Computed.{built, opens, gives}
+use Rattle.deduction.specs.Computed.{built, gives}
 use Rattle.deduction.specs.Code.{TableRead, marksOf, Inverses, Unbuilt, given, OfTerms, OpensAs, opensBy, Settled}
 use Rattle.deduction.proofs.MarkArrays.{facts}
 use Rattle.deduction.proofs.InverseTable.{no-key, the-key}

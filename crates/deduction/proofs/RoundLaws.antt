@@ -16,7 +16,7 @@ use Rattle.term.specs.Step.{Deducible}
 use Rattle.term.proofs.Reach.{known, reach-iff}
 use Rattle.submission.specs.Record.{terms, recordAt, term}
 use Rattle.deduction.specs.Computed.{built, gives}
-use Rattle.deduction.specs.Deduce.{Marked}
+use Rattle.deduction.specs.Computed.{Marked}
 use Rattle.deduction.specs.declared.Opening.{Opening}
 use Rattle.deduction.specs.declared.Opening.the-variants.{Freely, With, Shut}
 use Rattle.deduction.specs.declared.Round.{Round}

@@ -1,8 +1,6 @@
 -- What the call `deducible` promises.
-use mathlib.Core.{Path._≡_, List.List}
-use Prim.Native.Nat.{ℕ}
+use Rattle.base.specs.{Words._≡_, Words.List, Words.ℕ, Calls.answerOf}
 use Rattle.base.specs.declared.Answer.{Answer}
-use Rattle.base.specs.Calls.{answerOf}
 use Rattle.deduction.specs.Deduce.{deducibleAnswer}
 
 -- the answer r on the submission s and the term number t: 1 for yes, 0 for no, or the refusal

@@ -2,15 +2,15 @@
 use mathlib.Core.{Path._≡_, Logic._⊎_, Bool.Bool, Bool.true, Bool.false, Bool._&&_, Bool._||_, Bool.cond, List.List, List.[], List._∷_, List.map, Option.Option, Option.none, Option.some}
 use Prim.Native.Nat.{ℕ, suc, _≤_, _<_}
 use lib.{Dec.eqb, ListN.length, ListN.getD, ListN.set}
-use Rattle.base.specs.{First.first, Answer.passes, Bytes.Bytes}
+use Rattle.base.specs.{Lists.first, Answer.passes, Lists.Bytes}
 use Rattle.term.specs.{Step.Deducible, Table.Rec, Table.leaf, Table.branch}
-use Rattle.submission.specs.{Record.terms, Record.recordAt, Record.term, Record.areInverse, Check.checks1to4}
+use Rattle.submission.specs.{Record.terms, Record.recordAt, Record.term, Computed.areInverse, Check.checks1to4}
 use Rattle.deduction.specs.declared.Parts.{Parts}
 use Rattle.deduction.specs.declared.Parts.the-variants.{Nothing, Both}
 use Rattle.deduction.specs.declared.Opening.{Opening}
 use Rattle.deduction.specs.declared.Opening.the-variants.{Freely, With, Shut}
 use Rattle.deduction.specs.declared.Round.{Round}
-use Rattle.deduction.specs.{Computed.at, Computed.built, Computed.gives, Computed.isDeducible, Deduce.Marked}
+use Rattle.deduction.specs.Computed.{at, built, gives, isDeducible, Marked}
 
 -- bytes that passed checks 1 to 4
 pub record TableRead (s : List ℕ) : Type 0 where

@@ -1,11 +1,13 @@
 -- Deducibility computed: terms are first taken apart, as far as the keys that can be built allow; a term is deducible when it can be built from
 -- what that reaches. That this is what finite lists of steps reach is a theorem: `from-marks-exact`, `yes-exact`, `no-exact`.
-use mathlib.Core.{Bool.Bool, Bool.false, Bool._&&_, Bool._||_, List.List}
-use Prim.Native.Nat.{ℕ, zero, suc}
+use mathlib.Core.{Path._≡_, Bool.Bool, Bool.true, Bool.false, Bool._&&_, Bool._||_, List.List}
+use Prim.Native.Nat.{ℕ, zero, suc, _<_}
 use lib.{Dec.eqb, ListN.getD}
-use Rattle.base.specs.{First.any, Grow.listed}
+use Rattle.base.specs.Lists.{any, listed}
 use Rattle.term.specs.{Term.Cipher, Term.symmetric, Term.asymmetric, Term.pair, Term.encryption, Term.make, Term.part, Term.decrypt, Table.Rec, Table.leaf, Table.branch}
-use Rattle.submission.specs.Record.{terms, entries, entryAt, recordAt, areInverse}
+use Rattle.submission.specs.{Record.terms, Record.entries, Record.entryAt, Record.recordAt, Computed.areInverse}
+use Rattle.term.specs.Term.{Term}
+use Rattle.submission.specs.Record.{term}
 
 -- a mark for each term number
 abbrev pub at : List Bool → ℕ → Bool
@@ -59,3 +61,7 @@ rounds s m (suc i) = round s (rounds s m i)
 -- the term n is deducible from the terms that m marks; each round but the last marks a term, so as many rounds as terms are enough
 unfoldable pub isDeducible : List ℕ → List Bool → ℕ → Bool
 isDeducible s m n = built s (rounds s m (terms s)) n
+
+-- a term that m marks: what m says of a number that is not below T says nothing of a term
+abbrev pub Marked : List ℕ → List Bool → Term → Type 0
+Marked s m t = (n : ℕ) × (n < terms s) × ((at m n ≡ true) × (t ≡ term s n))

@@ -17,7 +17,8 @@ use Rattle.base.specs.declared.Stage.the-variants.{Passed, Refused}
 use Rattle.derivation.specs.declared.Step.{Step}
 use Rattle.derivation.specs.declared.Registers.{Registers}
 use Rattle.derivation.specs.Register.{written}
-use Rattle.derivation.specs.Step.{secondAt, badStep, unfounded, checkSteps}
+use Rattle.submission.specs.Record.{secondAt}
+use Rattle.derivation.specs.{Computed.badStep, Computed.unfounded, Step.checkSteps}
 use Rattle.derivation.specs.Code.{IsStep, Registered, checkStep, StepsChecked}
 use Rattle.derivation.proofs.RegistersHeld.{held-any}
 

@@ -7,7 +7,7 @@ use lib.Dec.{eqb}
 use borrow.Author.Tests.{lt-ltb, le-ltb, ltb-true}
 use Rattle.base.proofs.Says.{says-eqb, same-test}
 use Rattle.term.specs.Term.{symmetric, asymmetric, left, right, Form, encryption, Head, make, part, decrypt, compound}
-use Rattle.term.specs.Kind.{shapeOf, kindOf}
+use Rattle.term.specs.{Kind.shapeOf, Computed.kindOf}
 use Rattle.term.specs.Code.{builderOf}
 use Rattle.term.specs.Rule.{rules, isRule, headOf}
 use Rattle.term.specs.Code.{ruleOf}
@@ -17,7 +17,7 @@ use Rattle.submission.specs.Record.{terms}
 use Rattle.submission.specs.Code.{IsTerm}
 use Rattle.submission.specs.declared.Term.{Term}
 use Rattle.derivation.specs.declared.Step.{Step}
-use Rattle.derivation.specs.Step.{isRecord, follows, badStep}
+use Rattle.derivation.specs.Computed.{isRecord, follows, badStep}
 use Rattle.derivation.specs.Code.{IsStep}
 
 -- ---- the table of steps, read off the records of the first premise and the conclusion

@@ -1,44 +1,38 @@
--- Steps, and checks 6 and 7: document 01, 'Dolev-Yao steps' and 'Verdicts'.
-use mathlib.Core.{Bool.Bool, Bool._&&_, Bool._||_, Bool.not, Bool.cond, List.List, Option.Option, Option.none, Option.some}
-use Prim.Native.Nat.{ℕ}
-use lib.Dec.{eqb, ltb}
-use Rattle.base.specs.{First.first, Answer.Check, Answer.passes, Answer.fails}
-use Rattle.term.specs.{Term.Cipher, Term.symmetric, Term.asymmetric, Term.Side, Term.left, Term.right, Term.pair, Term.encryption, Term.Head, Term.make, Term.part, Term.decrypt, Term.compound, Kind.kindOf, Rule.isRule, Rule.headOf, Rule.hasOne}
-use Rattle.submission.specs.Record.{terms, steps, kindAt, xAt, yAt, ruleAt, pAt, qAt, conclusionAt, areInverse}
-use Rattle.derivation.specs.Register.{isKnown}
+-- The steps of a derivation, and checks 6 and 7: document 01, 'Dolev-Yao steps' and 'Verdicts'.
+use Rattle.base.specs.{Words._≡_, Words._⊎_, Words.true, Words._||_, Words.cond, Words.List, Words.Option, Words.none, Words.some, Words.ℕ, Words._<_, Lists.first, Answer.Check, Answer.passes, Answer.fails}
+use Rattle.term.specs.{Term.Head, Term.Term, Rule.rules, Rule.headOf, Rule.hasOne, Step.Step}
+use Rattle.submission.specs.Record.{terms, steps, ruleAt, pAt, qAt, secondAt, conclusionAt, guess, term, InKnowledge}
+use Rattle.derivation.specs.Computed.{badStep, unfounded}
 
--- the second premise; one premise counts as both
-unfoldable pub secondAt : List ℕ → ℕ → ℕ
-secondAt s i = cond (hasOne (ruleAt s i)) (pAt s i) (qAt s i)
+-- the rule, the two premises and the conclusion of step i, as terms
+abbrev pub rule : List ℕ → ℕ → Head
+rule s i = headOf (ruleAt s i)
 
-abbrev pub isRecord : List ℕ → ℕ → ℕ → ℕ → ℕ → Bool
-isRecord s n kind x y = eqb (kindAt s n) kind && (eqb (xAt s n) x && eqb (yAt s n) y)
+abbrev pub firstPremise : List ℕ → ℕ → Term
+firstPremise s i = term s (pAt s i)
 
-abbrev pub partAt : Side → List ℕ → ℕ → ℕ
-partAt left s n = xAt s n
-partAt right s n = yAt s n
+abbrev pub secondPremise : List ℕ → ℕ → Term
+secondPremise s i = term s (secondAt s i)
 
--- the term q opens what was encrypted under k
-abbrev pub opensWith : Cipher → List ℕ → ℕ → ℕ → Bool
-opensWith symmetric s k q = eqb k q
-opensWith asymmetric s k q = areInverse s k q
+abbrev pub concluded : List ℕ → ℕ → Term
+concluded s i = term s (conclusionAt s i)
 
--- The table of steps, of term numbers: the rule of this head concludes c from p and q.
-abbrev pub follows : List ℕ → Head → ℕ → ℕ → ℕ → Bool
-follows s (make f) p q c = isRecord s c (kindOf (compound f)) p q
-follows s (part i) p q c = eqb (kindAt s p) (kindOf (compound pair)) && (eqb (partAt i s p) c && eqb q 0)
-follows s (decrypt k) p q c = eqb (kindAt s p) (kindOf (compound (encryption k))) && (eqb (xAt s p) c && opensWith k s (yAt s p) q)
+-- Step i passes check 6, which `badStep` computes (`fits-iff`): not "rule, number or shape wrong". "Rules 1 and 2 have q = 0."
+pub record StepFits (s : List ℕ) (i : ℕ) : Type 0 where
+  pub rule-below : ruleAt s i < rules
+  pub p-below : pAt s i < terms s
+  pub q-below : qAt s i < terms s
+  pub conclusion-below : conclusionAt s i < terms s
+  pub unused : hasOne (ruleAt s i) ≡ true → qAt s i ≡ 0
+  pub step : Step (rule s i) (firstPremise s i) (secondPremise s i) (concluded s i)
 
--- 6 step: "rule, number or shape wrong"
-unfoldable pub badStep : List ℕ → ℕ → Bool
-badStep s i =
-    not (isRule (ruleAt s i)
-    && (ltb (pAt s i) (terms s) && (ltb (qAt s i) (terms s) && (ltb (conclusionAt s i) (terms s)
-    && follows s (headOf (ruleAt s i)) (pAt s i) (qAt s i) (conclusionAt s i)))))
+-- "A premise is known if it is in the knowledge, is the guess, or was concluded by an earlier step": t is known before step i
+abbrev pub Known : List ℕ → ℕ → Term → Type 0
+Known s i t = InKnowledge s t ⊎ ((t ≡ term s (guess s)) ⊎ ((j : ℕ) × (j < i) × (t ≡ concluded s j)))
 
--- 7 unfounded: "a premise not known"
-unfoldable pub unfounded : List ℕ → ℕ → Bool
-unfounded s i = not (isKnown s i (pAt s i) && isKnown s i (secondAt s i))
+-- Step i passes check 7, which `unfounded` computes (`founded-terms`): not "a premise not known"
+abbrev pub StepFounded : List ℕ → ℕ → Type 0
+StepFounded s i = Known s i (firstPremise s i) × Known s i (secondPremise s i)
 
 -- "6 and 7 are tried together, step by step"
 abbrev pub stepFault : List ℕ → Option ℕ → Check

@@ -10,14 +10,16 @@ ghost use Prim.Native.Nat.{_+_, _<_};
 ghost use lib.Dec.{eqb};
 ghost use lib.ListN.{getD};
 ghost use Rattle.term.specs.Term.{asymmetric, pair, encryption, compound};
-ghost use Rattle.term.specs.Kind.{shapeOf, kindOf};
+ghost use Rattle.term.specs.Kind.{shapeOf};
+ghost use Rattle.term.specs.Computed.{kindOf};
 ghost use Rattle.term.specs.Code.{builderOf};
 ghost use Rattle.term.specs.Rule.{rules as ruleCount, headOf, hasOne};
 ghost use Rattle.submission.specs.Code.{Limited};
-ghost use Rattle.submission.specs.Record.{entries, areInverse};
+ghost use Rattle.submission.specs.Record.{entries};
+ghost use Rattle.submission.specs.Computed.{areInverse};
 ghost use Rattle.base.specs.Code.{checkOf};
 ghost use Rattle.derivation.specs.Register.{written};
-ghost use Rattle.derivation.specs.Step.{follows as followsBy, badStep, unfounded};
+ghost use Rattle.derivation.specs.Computed.{follows as followsBy, badStep, unfounded};
 ghost use Rattle.derivation.specs.Code.{IsStep, Registered, Unused, Added, checkStep, StepsChecked};
 
 // A step's record.

@@ -1,11 +1,9 @@
 -- The machine: document 01, 'Machine'. "Run takes a submission, a 16-bit name and a program."
-use mathlib.Core.{Bool.Bool, Bool.false, Bool.cond, List.List, List.[], List._∷_, List._++_, Option.Option, Option.none, Option.some}
-use Prim.Native.Nat.{ℕ}
-use lib.ListN.{getD}
-use Rattle.base.specs.{Grow.grow, Grow.listed, Answer.Answer, Answer.done, Answer.andThen, Answer.answered, Bytes.byte}
-use Rattle.term.specs.{Term.Kind, Term.plain, Term.asymmetric, Term.Shape, Term.atomic, Term.compound, Term.Term, Term.atom, Term.term?, Term.test, Kind.shapeOf, Table.void, Reduce.op, Computed.match?, Rule.headOf, Relation.Relation, Relation.equal, Relation.inverse}
+use Rattle.base.specs.{Words.Bool, Words.false, Words.cond, Words.List, Words.[], Words._∷_, Words._++_, Words.Option, Words.none, Words.some, Words.ℕ, Words.getD, Lists.grow, Lists.listed, Answer.Answer, Answer.done, Answer.failsIf, Answer.andThen, Answer.answered, Lists.byte}
+use Rattle.term.specs.{Term.Kind, Term.plain, Term.asymmetric, Term.Shape, Term.atomic, Term.compound, Term.Term, Term.atom, Computed.term?, Kind.shapeOf, Table.void, Reduce.op, Computed.match?, Rule.headOf, Term.Relation, Term.equal, Term.inverses}
+use Rattle.base.specs.Words.{truth}
 use Rattle.submission.specs.{Record.entries, Record.entryAt, Record.guess, Record.kindAt, Record.term, Check.checks1to5}
-use Rattle.program.specs.{Tests.relationOf, Program.Instruction, Program.Test, Program.instructionAt, Program.testAt, Program.operand, Program.check13}
+use Rattle.program.specs.{Tests.relationOf, Program.Instruction, Program.Test, Program.instructionAt, Program.testAt, Program.operand, Program.badProgram}
 
 abbrev pub atomKind : Option Shape → Kind
 atomKind none = plain
@@ -31,8 +29,8 @@ registers s name P n = grow (initial s name) (λ vs i. executed vs (instructionA
 -- "`=` signals 1 for equal terms, `i` when the first is a key and the second its inverse, else 0"
 abbrev pub holds : Option Relation → Term → Term → Bool
 holds none a b = false
-holds (some equal) a b = test (term? b a)
-holds (some inverse) a b = test (match? asymmetric a b)
+holds (some equal) a b = truth (term? b a)
+holds (some inverses) a b = truth (match? asymmetric a b)
 
 unfoldable pub signals : List Term → Test → Bool
 signals vs t = holds (relationOf (t .letter)) (getD vs (t .left) void) (getD vs (t .right) void)
@@ -42,4 +40,4 @@ signal s name P = cond (signals (registers s name P (byte P 0)) (testAt P)) 1 0
 
 -- "run makes 1 to 5, then 13"
 unfoldable pub runAnswer : List ℕ → ℕ → List ℕ → Answer
-runAnswer s name P = answered (andThen (checks1to5 s) (check13 s P)) (done (signal s name P))
+runAnswer s name P = answered (andThen (checks1to5 s) (failsIf (badProgram s P) 13 0)) (done (signal s name P))

@@ -6,6 +6,7 @@ use base::Answer;
 use program::Asked;
 use program::Instruction;
 use submission::Reading;
+use term::Relation;
 use term::kinds;
 use term::rules;
 ghost use mathlib.Core.Path.{_≡_};
@@ -13,12 +14,15 @@ ghost use mathlib.Core.Bool.{false, cond, _&&_};
 ghost use mathlib.Core.List.{[]};
 ghost use Prim.Native.Nat.{_+_, _≤_, _<_};
 ghost use lib.Dec.{eqb};
-ghost use Rattle.base.specs.First.{first};
+ghost use Rattle.base.specs.Lists.{first};
 ghost use Rattle.term.specs.Term.{pair, make};
 ghost use Rattle.term.specs.Term.{pick};
 ghost use Rattle.term.specs.Code.{ruleOf};
-ghost use Rattle.base.specs.Bytes.{byte as byteAt};
+ghost use Rattle.base.specs.Lists.{byte as byteAt};
 ghost use Rattle.submission.specs.Record.{terms as termCount, entries as entryCount, recordAt};
+ghost use mathlib.Core.Option.{some};
+ghost use Rattle.term.specs.Code.{relationIs};
+ghost use Rattle.program.specs.Tests.{relationOf};
 ghost use Rattle.program.specs.Program.{testAt, badProgram};
 ghost use Rattle.program.specs.Code.{instructionIn};
 ghost use Rattle.machine.specs.Run.{executed as executedTerm, signals};
@@ -427,9 +431,10 @@ fn bit(b: bool) -> u16
     if b { 1 } else { 0 }
 }
 
-// The signal of the program's test.
-fn signal(program: &[u8], m: Machine) -> u16
+// The signal of the program's test, which asks for this relation.
+fn signal(program: &[u8], relation: Relation, m: Machine) -> u16
     requires { ⌜ Testable m (testAt (now program)) ⌝ }
+    requires { ⌜ relationOf (testAt (now program) .letter) ≡ some (relationIs relation) ⌝ }
     ensures { λ r. ⌜ r ≡ cond (signals (values m) (testAt (now (program .entry)))) 1 0 ⌝ }
 {
     let t = program::test_at(program);
@@ -439,11 +444,9 @@ fn signal(program: &[u8], m: Machine) -> u16
     let b = m.registers[q];
     let x = node_at(&m.heads, &m.lefts, &m.rights, a);
     let y = node_at(&m.heads, &m.lefts, &m.rights, b);
-    let relation = program::relation_of(t.letter);
     match relation {
-        Asked::Equal => bit(a == b),
-        Asked::Inverse => bit(are_inverse(x, y)),
-        Asked::Unknown => 0,
+        Relation::Equal => bit(a == b),
+        Relation::Inverse => bit(are_inverse(x, y)),
     }
 }
 
@@ -455,12 +458,13 @@ pub fn run(s: &[u8], name: u16, program: &[u8]) -> Answer
     let Reading::Good(_claim) = reading else {
         return base::answered_by(submission::stage_of(reading), 0);
     };
-    if program::is_program_bad(s, program) {
+    let asked = program::check_program(s, program);
+    let Asked::Asks(relation) = asked else {
         return Answer::Refused {
             number: 13,
             place: 0,
         };
-    }
+    };
     let m = executed(s, name, program);
-    Answer::Done(signal(program, m))
+    Answer::Done(signal(program, relation, m))
 }

@@ -1,20 +1,23 @@
 -- What the code's structs and enums mean in document 01's terms.
-use mathlib.Core.Option.{Option, none, some}
+use mathlib.Core.{Bool.cond, Option.Option, Option.none, Option.some, List.List}
 use Prim.Native.Nat.{ℕ}
 use lib.ListN.{getD}
-use Rattle.base.specs.Grow.{listed}
+use Rattle.base.specs.Lists.{listed}
 use Rattle.program.specs.declared.Asked.{Asked}
-use Rattle.program.specs.declared.Asked.the-variants.{Equal, Inverse, Unknown}
+use Rattle.program.specs.declared.Asked.the-variants.{Asks, Nothing}
 use Rattle.program.specs.declared.Instruction.{Instruction as InstructionRead}
 use Rattle.program.specs.declared.Test.{Test as TestRead}
 use Rattle.program.specs.declared.Program.{Program as ProgramRead}
-use Rattle.term.specs.Relation.{Relation, equal, inverse}
-use Rattle.program.specs.Program.{Instruction, Test, Program}
+use Rattle.term.specs.{Term.Relation, Code.relationIs}
+use Rattle.program.specs.{Tests.relationOf, Program.Instruction, Program.Test, Program.Program, Program.testAt, Program.badProgram}
 
 abbrev pub relationIn : Asked → Option Relation
-relationIn Equal = some equal
-relationIn Inverse = some inverse
-relationIn Unknown = none
+relationIn (Asks r) = some (relationIs r)
+relationIn Nothing = none
+
+-- the relation that the test of a program asks for; none where check 13 fails
+abbrev pub asked : List ℕ → List ℕ → Option Relation
+asked s P = cond (badProgram s P) none (relationOf (testAt P .letter))
 
 abbrev pub instructionIn : InstructionRead → Instruction
 instructionIn i = record { rule = i .rule; left = i .left; right = i .right }

@@ -1,11 +1,8 @@
 -- Register programs: their instructions and test, their bytes, and check 13. Document 01, 'The register program' and 'Verdicts'.
-use mathlib.Core.{Bool.Bool, Bool._&&_, Bool._||_, Bool.not, Bool.cond, List.List, List.[], List._∷_, List._++_}
-use Prim.Native.Nat.{ℕ, _+_, _*_}
-use lib.{Dec.eqb, Dec.ltb, ListN.length}
-use Rattle.base.specs.{First.any, Answer.Check, Answer.failsIf, Bytes.byte}
-use Rattle.term.specs.Rule.{isRule, hasOne}
+use Rattle.base.specs.{Words.Bool, Words.true, Words.Option, Words.none, Words.some, Words._&&_, Words._||_, Words.not, Words.cond, Words.List, Words.[], Words._∷_, Words._++_, Words.ℕ, Words._+_, Words._*_, Words.eqb, Words.ltb, Words.length, Lists.any, Lists.byte}
+use Rattle.term.specs.{Term.Relation, Rule.isRule, Rule.hasOne}
 use Rattle.submission.specs.Record.{entries}
-use Rattle.program.specs.Tests.{relationOf, registersOf, isTest}
+use Rattle.program.specs.Tests.{rowOf, relationOf}
 
 -- "per step the rule number and two registers"
 pub record Instruction : Type 0 where
@@ -54,9 +51,13 @@ goodRegisters n one left right = ltb left n && cond one (eqb right 0) (ltb right
 unfoldable pub badInstruction : ℕ → Instruction → Bool
 badInstruction n i = not (isRule (i .rule) && goodRegisters n (hasOne (i .rule)) (i .left) (i .right))
 
--- a test over n registers: "register not yet written; unused byte not 0; test letter"
+-- a test of this relation over n registers: "register not yet written; unused byte not 0; test letter"
+abbrev pub badFor : ℕ → Test → Option Relation → Bool
+badFor n t none = true
+badFor n t (some r) = not (goodRegisters n (eqb (rowOf r .registers) 1) (t .left) (t .right))
+
 unfoldable pub badTest : ℕ → Test → Bool
-badTest n t = not (isTest (relationOf (t .letter)) && goodRegisters n (eqb (registersOf (relationOf (t .letter))) 1) (t .left) (t .right))
+badTest n t = badFor n t (relationOf (t .letter))
 
 -- 13 program: "empty; length not 3n+4 or n over 128, n the first byte; rule; register not yet written; unused byte not 0; test letter"
 unfoldable pub badProgram : List ℕ → List ℕ → Bool
@@ -66,6 +67,3 @@ badProgram s P =
     || (not (eqb (length P) (programLength (byte P 0)))
     || (any (λ i. badInstruction (entries s + 1 + i) (instructionAt P i)) (byte P 0)
     || badTest (entries s + 1 + byte P 0) (testAt P))))
-
-abbrev pub check13 : List ℕ → List ℕ → Check
-check13 s P = failsIf (badProgram s P) 13 0

@@ -7,13 +7,13 @@ ghost use mathlib.Core.List.{[], _∷_, _++_};
 ghost use Prim.Native.Nat.{_+_, _*_, _≤_, _<_};
 ghost use lib.ListN.{length, set, drop};
 ghost use lib.Seq.{sets};
-ghost use Rattle.base.specs.First.{any};
-ghost use Rattle.base.specs.Grow.{listed};
-ghost use Rattle.base.specs.Bytes.{byte as byteAt};
+ghost use Rattle.base.specs.Lists.{any};
+ghost use Rattle.base.specs.Lists.{listed};
+ghost use Rattle.base.specs.Lists.{byte as byteAt};
 ghost use Rattle.term.specs.Code.{relationIs};
-ghost use Rattle.program.specs.Tests.{rowOf, relationOf, registersOf};
+ghost use Rattle.program.specs.Tests.{rowOf, relationOf};
 ghost use Rattle.program.specs.Program.{instructionBytes, bytesOf, programLength, instructionAt, testAt, operand, goodRegisters, badInstruction, badTest, badProgram};
-ghost use Rattle.program.specs.Code.{relationIn, instructionIn, testIn, heldAt, programIn};
+ghost use Rattle.program.specs.Code.{relationIn, asked, instructionIn, testIn, heldAt, programIn};
 
 // ---- The tests, as specs/Tests.antt lists them.
 
@@ -21,20 +21,19 @@ pub const EQUAL: u8 = b'=';
 
 pub const INVERSE: u8 = b'i';
 
-// What a letter asks of the registers' terms.
+// What a test asks of the registers' terms, where it is one.
 pub enum Asked {
-    Equal,
-    Inverse,
-    Unknown,
+    Asks(Relation),
+    Nothing,
 }
 
 pub fn relation_of(letter: u8) -> Asked
     ensures { λ r. ⌜ relationIn r ≡ relationOf letter ⌝ }
 {
     match letter {
-        EQUAL => Asked::Equal,
-        INVERSE => Asked::Inverse,
-        _ => Asked::Unknown,
+        EQUAL => Asked::Asks(Relation::Equal),
+        INVERSE => Asked::Asks(Relation::Inverse),
+        _ => Asked::Nothing,
     }
 }
 
@@ -49,13 +48,12 @@ pub fn letter_of(relation: Relation) -> u8
 }
 
 // How many registers a test names.
-fn registers_of(asked: Asked) -> u8
-    ensures { λ r. ⌜ r ≡ registersOf (relationIn asked) ⌝ }
+fn registers_of(relation: Relation) -> u8
+    ensures { λ r. ⌜ r ≡ rowOf (relationIs relation) .registers ⌝ }
 {
-    match asked {
-        Asked::Equal => 2,
-        Asked::Inverse => 2,
-        Asked::Unknown => 0,
+    match relation {
+        Relation::Equal => 2,
+        Relation::Inverse => 2,
     }
 }
 
@@ -211,11 +209,10 @@ fn is_instruction_bad(i: Instruction, written: usize) -> bool
 fn is_test_bad(t: Test, written: usize) -> bool
     ensures { λ r. ⌜ r ≡ badTest written (testIn t) ⌝ }
 {
-    let named = registers_of(relation_of(t.letter));
-    if named == 0 {
+    let Asked::Asks(relation) = relation_of(t.letter) else {
         return true;
-    }
-    !are_registers_good(written, named == 1, t.left, t.right)
+    };
+    !are_registers_good(written, registers_of(relation) == 1, t.left, t.right)
 }
 
 // Whether some instruction is bad, where `known` registers hold the knowledge.
@@ -233,7 +230,7 @@ fn has_bad_instruction(program: &[u8], known: u8) -> bool
 }
 
 // Row 13 of the verdicts.
-pub fn is_program_bad(s: &[u8], program: &[u8]) -> bool
+fn is_program_bad(s: &[u8], program: &[u8]) -> bool
     ensures { λ r. ⌜ r ≡ badProgram (now (s .entry)) (now (program .entry)) ⌝ }
 {
     if program.len() == 0 {
@@ -251,4 +248,14 @@ pub fn is_program_bad(s: &[u8], program: &[u8]) -> bool
         return true;
     }
     is_test_bad(test_at(program), base::wide(known) + 1 + base::wide(n))
+}
+
+// Check 13, and what the program's test asks where it passes.
+pub fn check_program(s: &[u8], program: &[u8]) -> Asked
+    ensures { λ r. ⌜ relationIn r ≡ asked (now (s .entry)) (now (program .entry)) ⌝ }
+{
+    if is_program_bad(s, program) {
+        return Asked::Nothing;
+    }
+    relation_of(test_at(program).letter)
 }

@@ -1,13 +1,13 @@
 -- Check 5, one test at a time: the way's letter, the ranges of the step and of the companion, and the guess.
 use mathlib.Core.Path.{_≡_, sym, ap, ap₂, _∙_, subst}
-use mathlib.Core.Bool.{Bool, true, false, and-false}
+use mathlib.Core.Bool.{Bool, true, false, and-false, not}
 use mathlib.Core.List.{List}
-use mathlib.Core.Option.{none, some}
+use mathlib.Core.Option.{none}
 use Prim.Native.Nat.{ℕ}
 use native.Mathlib.Omega.{arith}
 use lib.Dec.{eqb, ltb}
 use borrow.Author.Tests.{ne-eqb}
-use Rattle.base.specs.Answer.{passes, fails}
+use Rattle.base.specs.Answer.{passes, fails, failsIf}
 use Rattle.term.specs.Term.{isAtomic}
 use Rattle.term.specs.Kind.{shapeOf}
 use Rattle.submission.specs.declared.Term.{Term}
@@ -26,7 +26,7 @@ use Rattle.base.specs.declared.Stage.the-variants as stage
 use Rattle.base.specs.Code.{checkOf}
 use Rattle.submission.specs.Record.{terms, steps, kindAt, guess, verifying, wayAt}
 use Rattle.submission.specs.Way.{wayOf, row, inRange, claimFits}
-use Rattle.submission.specs.Check.{goodClaim, check5, checks1to4, checks1to5}
+use Rattle.submission.specs.Check.{goodClaim, checks1to4, checks1to5}
 use Rattle.submission.specs.Code.{IsTerm, wayIs, letterIs, rangeIs, rowIs, IsClaimBytes, IsClaim, readingCheck, ReadingIs}
 
 refused-not-good : {A : Type 0} {number place : ℕ} {c : Claim} → Refused number place ≡ Good c → A
@@ -72,7 +72,7 @@ module _ {s : List ℕ} {c : Claim} (p : IsClaim s c) where
 
 -- ---- check 5
 module _ {s : List ℕ} {b : ClaimBytes} (p : IsClaimBytes s b) {l : Letter} (e : letterIs l ≡ wayOf (b .letter)) where
-  pub stranger-refused : l ≡ Stranger → ReadingIs s (check5 s) (Refused 5 0)
+  pub stranger-refused : l ≡ Stranger → ReadingIs s (failsIf (not (goodClaim s)) 5 0) (Refused 5 0)
   unfolding goodClaim
   stranger-refused q =
       let n : wayOf (wayAt s) ≡ none = ap wayOf (sym (p .letter)) ∙ sym e ∙ ap letterIs q in
@@ -82,10 +82,10 @@ module _ {s : List ℕ} {b : ClaimBytes} (p : IsClaimBytes s b) {l : Letter} (e 
   claim-read q = record { guessed = p .guessed; step = p .step; way = ap wayOf (sym (p .letter)) ∙ sym e ∙ ap letterIs q; other = p .other }
 
 module _ {s : List ℕ} {r : Bool} (e : r ≡ goodClaim s) where
-  pub claim-good : {c : Claim} → IsClaim s c → r ≡ true → ReadingIs s (check5 s) (Good c)
+  pub claim-good : {c : Claim} → IsClaim s c → r ≡ true → ReadingIs s (failsIf (not (goodClaim s)) 5 0) (Good c)
   claim-good {c} p q = record { answer = rw (← e, q); claim = λ d z. subst (IsClaim s) (good-same z) p }
 
-  pub claim-bad : r ≡ false → ReadingIs s (check5 s) (Refused 5 0)
+  pub claim-bad : r ≡ false → ReadingIs s (failsIf (not (goodClaim s)) 5 0) (Refused 5 0)
   claim-bad q = record { answer = rw (← e, q); claim = λ c z. refused-not-good z }
 
 -- ---- checks 1 to 5
@@ -94,7 +94,7 @@ module _ {s : List ℕ} {u : Stage} (e : checkOf u ≡ checks1to4 s) where
   unfolding checks1to5
   reading-refused number place q = record { answer = rw (← e, q); claim = λ c z. refused-not-good z }
 
-  pub reading-goes-on : {r : Reading} → u ≡ stage.Passed → ReadingIs s (check5 s) r → ReadingIs s (checks1to5 s) r
+  pub reading-goes-on : {r : Reading} → u ≡ stage.Passed → ReadingIs s (failsIf (not (goodClaim s)) 5 0) r → ReadingIs s (checks1to5 s) r
   unfolding checks1to5
   reading-goes-on q h = record { answer = rw (← e, q) (h .answer); claim = h .claim }
 

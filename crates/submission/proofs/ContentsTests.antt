@@ -5,8 +5,8 @@ use mathlib.Core.List.{List}
 use Prim.Native.Nat.{ℕ, _*_, _<_, _≤_}
 use borrow.Author.Tests.{eq-eqb, ne-eqb, lt-ltb, le-ltb}
 use mathlib.Core.Option.{none, some}
-use Rattle.base.specs.First.{any, first, firstFrom, isSome}
-use Rattle.base.specs.Bytes.{byte}
+use Rattle.base.specs.{Lists.any, Lists.first, Lists.firstFrom, Code.isSome}
+use Rattle.base.specs.Lists.{byte}
 use Rattle.submission.specs.Contents.{letter, count, wrongLetter, least, most, badCount}
 
 module _ (s : List ℕ) (i : ℕ) {r : ℕ} where

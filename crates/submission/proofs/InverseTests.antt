@@ -4,9 +4,9 @@ use mathlib.Core.Bool.{Bool, false, and-true, and-false}
 use mathlib.Core.List.{List}
 use Prim.Native.Nat.{ℕ}
 use borrow.Author.Tests.{eq-eqb, ne-eqb}
-use Rattle.term.specs.Kind.{inverseKinds}
+use Rattle.term.specs.Computed.{inverseKinds}
 use Rattle.submission.specs.declared.Term.{Term}
-use Rattle.submission.specs.Record.{areInverse}
+use Rattle.submission.specs.Computed.{areInverse}
 use Rattle.submission.specs.Code.{IsTerm}
 
 module _ {s : List ℕ} {i j : ℕ} {a b : Term} (p : IsTerm s i a) (q : IsTerm s j b) where

@@ -1,8 +1,5 @@
 -- The table of contents and the counts: document 01, 'The submission'; checks 1 and 2.
-use mathlib.Core.{Bool.Bool, Bool._||_, Bool.not, List.List, List.[], List._∷_}
-use Prim.Native.Nat.{ℕ, zero, suc, _+_, _*_}
-use lib.{Dec.eqb, Dec.ltb, ListN.length, ListN.getD}
-use Rattle.base.specs.{First.first, First.any, Bytes.byte, Bytes.word, Answer.Check, Answer.failsAt, Answer.failsIf}
+use Rattle.base.specs.{Words.Bool, Words._||_, Words.not, Words.List, Words.[], Words._∷_, Words.ℕ, Words.zero, Words.suc, Words._+_, Words._*_, Words.eqb, Words.ltb, Words.length, Words.getD, Lists.any, Lists.byte, Lists.word}
 
 -- "four entries of 4 bytes: a letter, a one-byte count, a two-byte start"; entries 0 to 3
 -- "The letters, in order, are T terms, K knowledge, D derivation, V claim."
@@ -31,9 +28,6 @@ wrongStart s i = not (eqb (word s (4 * i + 2)) (start s i))
 unfoldable pub badContents : List ℕ → Bool
 badContents s = ltb (length s) 16 || (any (wrongLetter s) 4 || (any (wrongStart s) 4 || not (eqb (length s) (start s 4))))
 
-abbrev pub check1 : List ℕ → Check
-check1 s = failsIf (badContents s) 1 0
-
 -- "Counts: T 1 to 250, K 0 to 64, D 0 to 128, V exactly 1."
 abbrev pub least : ℕ → ℕ
 least i = getD (1 ∷ 0 ∷ 0 ∷ 1 ∷ []) i 0
@@ -44,6 +38,3 @@ most i = getD (250 ∷ 64 ∷ 128 ∷ 1 ∷ []) i 0
 -- 2 count: "T, K, D, V outside its limits", place "first such entry, 0 to 3"
 abbrev pub badCount : List ℕ → ℕ → Bool
 badCount s i = ltb (count s i) (least i) || ltb (most i) (count s i)
-
-abbrev pub check2 : List ℕ → Check
-check2 s = failsAt 2 (first (badCount s) 4)

@@ -1,10 +1,8 @@
 -- The records and their meaning: document 01, 'The submission'. "Records count from 0."
-use mathlib.Core.{Path._≡_, Bool.Bool, Bool._&&_, Bool.cond, List.List, Option.Option, Option.none, Option.some}
-use Prim.Native.Nat.{ℕ, _+_, _*_, _<_}
-use lib.{Dec.eqb, ListN.getD}
-use Rattle.term.specs.{Term.plain, Term.unary, Term.make, Term.Shape, Term.atomic, Term.compound, Term.Term, Kind.shapeOf, Kind.inverseKinds, Table.Rec, Table.leaf, Table.branch, Table.decoded, Table.void}
-use Rattle.base.specs.Bytes.{byte}
+use Rattle.base.specs.{Words._≡_, Words.cond, Words.List, Words.Option, Words.none, Words.some, Words.ℕ, Words._+_, Words._*_, Words._<_, Words.getD, Lists.byte}
+use Rattle.term.specs.{Rule.hasOne, Term.plain, Term.unary, Term.make, Term.Shape, Term.atomic, Term.compound, Term.Term, Kind.shapeOf, Table.Rec, Table.leaf, Table.branch, Table.decoded, Table.void}
 use Rattle.submission.specs.Contents.{count, start}
+use Rattle.term.specs.Term.{second}
 
 -- "Call the counts of K and D also K and N": the counts of terms, of knowledge entries and of steps
 abbrev pub terms : List ℕ → ℕ
@@ -44,6 +42,10 @@ pAt s i = byte s (start s 2 + 4 * i + 1)
 abbrev pub qAt : List ℕ → ℕ → ℕ
 qAt s i = byte s (start s 2 + 4 * i + 2)
 
+-- "Rules 1 and 2 have q = 0": their one premise counts as both
+unfoldable pub secondAt : List ℕ → ℕ → ℕ
+secondAt s i = cond (hasOne (ruleAt s i)) (pAt s i) (qAt s i)
+
 abbrev pub conclusionAt : List ℕ → ℕ → ℕ
 conclusionAt s i = byte s (start s 2 + 4 * i + 3)
 
@@ -64,7 +66,7 @@ companion s = byte s (start s 3 + 3)
 abbrev pub recordOf : Option Shape → ℕ → ℕ → ℕ → Rec
 recordOf none name x y = leaf plain name
 recordOf (some (atomic κ)) name x y = leaf κ name
-recordOf (some (compound f)) name x y = branch (make f) x (cond (unary f) x y)
+recordOf (some (compound f)) name x y = branch (make f) x (cond (unary (second f)) x y)
 
 unfoldable pub recordAt : List ℕ → ℕ → Rec
 recordAt s i = recordOf (shapeOf (kindAt s i)) (nameAt s i) (xAt s i) (yAt s i)
@@ -76,7 +78,3 @@ term s n = getD (decoded (recordAt s) (terms s)) n void
 -- a message in the knowledge
 abbrev pub InKnowledge : List ℕ → Term → Type 0
 InKnowledge s t = (r : ℕ) × (r < entries s) × (t ≡ term s (entryAt s r))
-
--- "Keys of kinds 2 and 3 with one name are each other's inverse", of term numbers
-unfoldable pub areInverse : List ℕ → ℕ → ℕ → Bool
-areInverse s i j = inverseKinds (kindAt s i) (kindAt s j) && (eqb (xAt s i) (xAt s j) && eqb (yAt s i) (yAt s j))

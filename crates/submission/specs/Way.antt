@@ -1,9 +1,7 @@
 -- The ways of a claim, in one table: document 01, 'The submission', conditions 4 and 5, the test of 'The register program', and row 5 of 'Verdicts'.
 -- What condition 4 asks in each way is in the crate `conditions`.
-use mathlib.Core.{Bool.Bool, Bool.true, Bool.false, Bool._&&_, Bool.cond, List.List, Option.Option, Option.none, Option.some}
-use Prim.Native.Nat.{ℕ}
-use lib.Dec.{eqb, ltb}
-use Rattle.term.specs.Relation.{Relation, equal, inverse}
+use Rattle.base.specs.Words.{Bool, true, false, _&&_, cond, List, Option, none, some, ℕ, eqb, ltb}
+use Rattle.term.specs.Term.{Relation, equal, inverses}
 use Rattle.submission.specs.Record.{terms, steps, verifying, companion}
 
 -- way a: another step concludes the same term; way b: it is known at the start; way c: its inverse key is known
@@ -44,7 +42,7 @@ row another-step =
 row at-start =
     record { step = step-number; companion = zero-only; companionKept = false; relation = equal; tested = verifying-result; against = lowest-conclusion }
 row inverse-key =
-    record { step = step-number; companion = term-number; companionKept = false; relation = inverse; tested = verifying-result; against = lowest-companion }
+    record { step = step-number; companion = term-number; companionKept = false; relation = inverses; tested = verifying-result; against = lowest-companion }
 
 abbrev pub inRange : List ℕ → Range → ℕ → Bool
 inRange s step-number n = ltb n (steps s)

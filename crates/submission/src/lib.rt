@@ -8,18 +8,19 @@ use base::word;
 use term::Relation;
 use term::kinds;
 ghost use mathlib.Core.Path.{_≡_};
-ghost use mathlib.Core.Bool.{_&&_};
+ghost use mathlib.Core.Bool.{_&&_, not};
 ghost use Prim.Native.Nat.{_<_};
 ghost use lib.Dec.{eqb};
-ghost use Rattle.base.specs.First.{any};
+ghost use Rattle.base.specs.Lists.{any, first};
 ghost use Rattle.term.specs.Kind.{shapeOf};
-ghost use Rattle.base.specs.Bytes.{byte as byteAt, word as wordAt};
-ghost use Rattle.submission.specs.Contents.{wrongLetter, wrongStart, badContents, check1, check2};
-ghost use Rattle.submission.specs.Record.{terms as termCount, entries as entryCount, steps as stepCount, kindAt, xAt, yAt, entryAt, wayAt, areInverse};
+ghost use Rattle.submission.specs.Contents.{wrongLetter, wrongStart, badContents, badCount};
+ghost use Rattle.submission.specs.Record.{terms as termCount, entries as entryCount, steps as stepCount, kindAt, xAt, yAt, entryAt, wayAt};
+ghost use Rattle.submission.specs.Computed.{areInverse};
 ghost use Rattle.submission.specs.Way.{wayOf, row, inRange, claimFits};
-ghost use Rattle.submission.specs.Check.{shapeFits, sameRecord, badTerm, badKnowledge, goodClaim, check3, check4, check5, checks1to4, checks1to5};
+ghost use Rattle.submission.specs.Check.{shapeFits, sameRecord, badTerm, badKnowledge, goodClaim, checks1to4, checks1to5};
 ghost use Rattle.base.specs.Code.{checkOf};
 ghost use Rattle.submission.specs.Code.{Starts, IsTerm, wayIs, letterIs, rangeIs, rowIs, IsClaimBytes, IsClaim, readingCheck, ReadingIs, LastBytes};
+ghost use Rattle.base.specs.Answer.{failsAt, failsIf};
 
 pub fn terms(s: &[u8]) -> u8
     ensures { λ r. ⌜ r ≡ termCount (now (s .entry)) ⌝ }
@@ -173,7 +174,7 @@ fn are_contents_wrong(s: &[u8]) -> bool
 }
 
 pub fn check_contents(s: &[u8]) -> Stage
-    ensures { λ r. ⌜ checkOf r ≡ check1 (now (s .entry)) ⌝ }
+    ensures { λ r. ⌜ checkOf r ≡ failsIf (badContents (now (s .entry))) 1 0 ⌝ }
 {
     if are_contents_wrong(s) {
         return Stage::Refused {
@@ -186,7 +187,7 @@ pub fn check_contents(s: &[u8]) -> Stage
 
 // ---- Check 2, count.
 pub fn check_counts(s: &[u8]) -> Stage
-    ensures { λ r. ⌜ checkOf r ≡ check2 (now (s .entry)) ⌝ }
+    ensures { λ r. ⌜ checkOf r ≡ failsAt 2 (first (badCount (now (s .entry))) 4) ⌝ }
 {
     let least: [u8; 4] = [1, 0, 0, 1];
     let most: [u8; 4] = [250, 64, 128, 1];
@@ -295,7 +296,7 @@ fn is_term_bad(s: &[u8], last: &[u8; 256], i: u8) -> bool
 }
 
 pub fn check_terms(s: &[u8]) -> Stage
-    ensures { λ r. ⌜ checkOf r ≡ check3 (now (s .entry)) ⌝ }
+    ensures { λ r. ⌜ checkOf r ≡ failsAt 3 (first (badTerm (now (s .entry))) (termCount (now (s .entry)))) ⌝ }
 {
     let last = last_bytes(s);
     let n = terms(s);
@@ -339,7 +340,7 @@ fn is_entry_bad(s: &[u8], i: u8) -> bool
 }
 
 pub fn check_knowledge(s: &[u8]) -> Stage
-    ensures { λ r. ⌜ checkOf r ≡ check4 (now (s .entry)) ⌝ }
+    ensures { λ r. ⌜ checkOf r ≡ failsAt 4 (first (badKnowledge (now (s .entry))) (entryCount (now (s .entry)))) ⌝ }
 {
     let n = entries(s);
     let mut i: u8 = 0;
@@ -496,7 +497,7 @@ fn is_claim_good(s: &[u8], c: Claim) -> bool
 }
 
 pub fn check_claim(s: &[u8]) -> Reading
-    ensures { λ r. ⌜ ReadingIs (now (s .entry)) (check5 (now (s .entry))) r ⌝ }
+    ensures { λ r. ⌜ ReadingIs (now (s .entry)) (failsIf (not (goodClaim (now (s .entry)))) 5 0) r ⌝ }
 {
     let bytes = claim_bytes(s);
     let letter = way_of(bytes.letter);

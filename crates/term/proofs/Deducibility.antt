@@ -1,7 +1,7 @@
 -- Deducible, exactly: what steps reach is what is built from the terms that taking apart gives.
-use mathlib.Core.Path.{_≡_, refl, sym, subst}
+use mathlib.Core.Path.{_≡_, sym, subst}
 use mathlib.Core.Logic.{_↔_, _⊎_, inl, inr, ⊎-elim}
-use Rattle.term.specs.Term.{Cipher, Side, Form, pair, encryption, Head, make, part, decrypt, Term, node, Match, Operands}
+use Rattle.term.specs.Term.{Cipher, Side, Form, pair, encryption, Head, make, part, decrypt, Term, node, Match, Operands, second}
 use Rattle.term.specs.Code.{builds}
 use Rattle.term.specs.Term.{pick}
 use Rattle.term.specs.Step.{Step}
@@ -11,7 +11,7 @@ use Rattle.term.proofs.Reach.{Reach, known, stepped}
 -- what is built from A
 pub data Built (A : Term → Type 0) : Term → Type 0 where
   given : {t : Term} → A t → Built A t
-  made : {t : Term} (f : Form) (a b : Term) → Operands f a b → t ≡ node (make f) a b → Built A a → Built A b → Built A t
+  made : {t : Term} (f : Form) (a b : Term) → Operands (second f) a b → t ≡ node (make f) a b → Built A a → Built A b → Built A t
 
 -- a term of a head that builds, from its operands
 pub built-node : {A : Term → Type 0} {t a b : Term} (h : Head) → t ≡ node h a b → builds h a b → Built A a → Built A b → Built A t

@@ -1,7 +1,6 @@
 -- The test of parts says what it tests.
-use mathlib.Core.Logic.{_⊎_}
 use Rattle.base.proofs.Says.{Says, says-or}
-use Rattle.term.specs.Term.{Term, atom, node, term?, test, Part}
+use Rattle.term.specs.{Term.Term, Term.atom, Term.node, Computed.term?, Term.Part}
 use Rattle.term.specs.Computed.{isPart}
 use Rattle.term.proofs.Reduce.{says-test}
 

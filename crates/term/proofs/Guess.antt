@@ -8,7 +8,7 @@ use Rattle.term.specs.Term.{plain, public, private, Cipher, symmetric, a
 use Rattle.term.specs.Code.{builds, Message}
 use Rattle.term.specs.Term.{pick}
 use Rattle.term.specs.Reduce.{op}
-use Rattle.term.specs.Fresh.{Fresh}
+use Rattle.term.specs.Term.{Fresh}
 use Rattle.term.specs.Step.{Step, Undoes}
 use Rattle.term.proofs.Reduce.{Atomic, atom-not-node, part-self, part-node, match-det, match-sym, Reduces, op-cases, step-op, step-det}
 use Rattle.term.proofs.Reach.{Reach, stepped, reach-message, reach-fresh}
@@ -26,11 +26,11 @@ part-atomic x (node h b c) a p = absurd (atom-not-node a refl)
 
 -- a key that matches another has no atom but those of the other and their inverses
 match-part : (c : Cipher) (x k j : Term) → Match c k j → Part x j → Part x k ⊎ Part (inverse x) k
-match-part symmetric x k j m i = inl (subst (Part x) (m .turned) i)
-match-part asymmetric x (atom plain n) j m i = absurd (m .fits)
-match-part asymmetric x (atom public n) j m i = inr (ap inverse (subst (Part x) (m .turned) i))
-match-part asymmetric x (atom private n) j m i = inr (ap inverse (subst (Part x) (m .turned) i))
-match-part asymmetric x (node h y z) j m i = absurd (m .fits)
+match-part symmetric x k j m i = inl (subst (Part x) m i)
+match-part asymmetric x (atom plain n) j m i = absurd (m .0)
+match-part asymmetric x (atom public n) j m i = inr (ap inverse (subst (Part x) (m .1) i))
+match-part asymmetric x (atom private n) j m i = inr (ap inverse (subst (Part x) (m .1) i))
+match-part asymmetric x (node h y z) j m i = absurd (m .0)
 
 -- a step of the rule h from p to t undoes a step of the derivation D
 abbrev pub UndoesSome : (Head → Term → Term → Term → Type 0) → Head → Term → Term → Type 0
@@ -121,22 +121,22 @@ module _ (K : Term → Type 0) (D : Head → Term → Term → Term → Type 0) 
     key-clean (formed h p q a b d x y j e) k = absurd (subst isKey e k)
 
     unmatched : {q b : Term} → MayHold q b → Match asymmetric w b → ⊥
-    unmatched y m = no-inverse (m .fits) y (subst (Part (inverse w)) (sym (m .turned)) (part-self (inverse w)))
+    unmatched y m = no-inverse (m .0) y (subst (Part (inverse w)) (sym (m .1)) (part-self (inverse w)))
 
     -- keys whose values match are themselves a match
     match-back : (c : Cipher) {p q a b : Term} → MayHold p a → MayHold q b → Match c a b → Match c p q
-    match-back symmetric x y m = record { fits = tt; turned = same-term y x (m .turned) }
-    match-back asymmetric {p} {q} {a} {b} x y m = go (key-clean x (m .fits)) (key-clean y (match-sym m .fits))
+    match-back symmetric x y m = same-term y x m
+    match-back asymmetric {p} {q} {a} {b} x y m = go (key-clean x (m .0)) (key-clean y (match-sym asymmetric a b m .0))
       where
         go : (a ≡ p) ⊎ (a ≡ w) → (b ≡ q) ⊎ (b ≡ w) → Match asymmetric p q
         go (inl e) (inl f) = subst (λ z. Match asymmetric z q) e (subst (Match asymmetric a) f m)
-        go (inl e) (inr f) = absurd (unmatched x (subst (λ z. Match asymmetric z a) f (match-sym m)))
+        go (inl e) (inr f) = absurd (unmatched x (subst (λ z. Match asymmetric z a) f (match-sym asymmetric a b m)))
         go (inr e) f = absurd (unmatched y (subst (λ z. Match asymmetric z b) e m))
 
     -- the key of a clean value matches no tainted one
-    encrypted-fresh : (c : Cipher) {p v r k b : Term} → v ≡ node (make (encryption c)) r k → Match c k b → Part w v ⊎ Part w b → Reach K p → v ≡ p → ⊥
-    encrypted-fresh c f m (inl i) x e = clean-fresh x e i
-    encrypted-fresh c {p} {v = v} {r} {k} {b} f m (inr i) x e =
+    encrypted-fresh : (c : Cipher) (b : Term) {p v r k : Term} → v ≡ node (make (encryption c)) r k → Match c k b → Part w v ⊎ Part w b → Reach K p → v ≡ p → ⊥
+    encrypted-fresh c b f m (inl i) x e = clean-fresh x e i
+    encrypted-fresh c b {p} {v = v} {r} {k} f m (inr i) x e =
         ⊎-elim (out w w-atom (is-fresh .apart)) (out (inverse w) inverse-atomic (is-fresh .inverseApart)) (match-part c w k b m i)
       where
         out : (z : Term) → Atomic z → ((t : Term) → K t → Part z t → ⊥) → Part z k → ⊥
@@ -175,11 +175,11 @@ module _ (K : Term → Type 0) (D : Head → Term → Term → Term → Type 0) 
         let (p₁, q₁, d, x₁, y₁) = formed-by (x .first) (red .1) (not-message (red .1) (λ f. f)) in
         let s = sound (make (encryption c)) p q t (x .step) in
         let s₁ = sound (decrypt c) p₁ q₁ p d in
-        let e : q ≡ s₁ .0 = match-det (match-back c y₁ (x .second) (red .2)) (match-sym (s₁ .2)) in
+        let e : q ≡ s₁ .0 = match-det c _ _ _ (match-back c y₁ (x .second) (red .2)) (match-sym c _ _ (s₁ .2)) in
         let f : p₁ ≡ t = cc in
         (subst (λ z. MayHold z r) f x₁, (decrypt c, p₁, q₁, p, d, inr (refl, f)))
-    reduced (decrypt c) p q t {r = r} x taint red =
-        let (p₁, q₁, d, x₁, y₁) = formed-by (x .first) (red .1) (encrypted-fresh c (red .1) (red .2) taint) in
+    reduced (decrypt c) p q t {u = u} {r} x taint red =
+        let (p₁, q₁, d, x₁, y₁) = formed-by (x .first) (red .1) (encrypted-fresh c u (red .1) (red .2) taint) in
         let s = sound (decrypt c) p q t (x .step) in
         let s₁ = sound (make (encryption c)) p₁ q₁ p d in
         let f : p₁ ≡ t = cc in

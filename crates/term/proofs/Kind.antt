@@ -8,10 +8,10 @@ use native.Mathlib.Omega.{arith}
 use lib.Dec.{eqb}
 use lib.ListN.{length}
 use borrow.Author.Tests.{ne-eqb}
-use Rattle.base.specs.Grow.{grow, listed}
+use Rattle.base.specs.Lists.{grow, listed}
 use Rattle.base.proofs.Says.{Says, says-eqb}
-use Rattle.term.specs.Term.{plain, public, private, symmetric, asymmetric, Form, pair, encryption, Second, absent, anything, keyFor, make, single, takes, Shape, atomic, compound, shape?, isAtomic, isKeyFor}
-use Rattle.term.specs.Kind.{kinds, shapeOf, kindOf, inverseKinds}
+use Rattle.term.specs.{Term.plain, Term.public, Term.private, Term.symmetric, Term.asymmetric, Term.Form, Term.pair, Term.encryption, Term.Second, Term.absent, Term.anything, Term.keyFor, Term.make, Term.single, Term.takes, Term.Shape, Term.atomic, Term.compound, Computed.shape?, Term.isAtomic, Term.isKeyFor}
+use Rattle.term.specs.{Kind.kinds, Kind.shapeOf, Computed.kindOf, Computed.inverseKinds}
 use Rattle.term.specs.Code.{isUnary, builderOf, secondOf}
 use Rattle.term.specs.Rule.{rules, headOf, hasOne}
 use Rattle.term.specs.Code.{ruleOf}

@@ -8,12 +8,13 @@ use Prim.Native.Nat.{ℕ, zero, suc, _≤_, _<_}
 use native.Mathlib.Omega.{arith}
 use lib.Dec.{eqb, ltb}
 use lib.ListN.{length, getD}
-use borrow.Author.Tests.{eq-eqb, ne-eqb}
-use Rattle.base.specs.Grow.{listed}
+use borrow.Author.Tests.{ne-eqb}
+use Rattle.base.specs.Lists.{listed}
 use Rattle.base.proofs.Grow.{listed-at}
 use Rattle.base.proofs.Order.{lt-or-ge}
 use Rattle.base.proofs.Says.{says-true, says-ltb, says-and}
-use Rattle.term.specs.Numbered.{entry, place}
+use Rattle.base.specs.Words.{getElem?}
+use Rattle.term.specs.Computed.{place}
 
 -- two functions of a number are equal below N where their listed values are
 pub same-below : {A : Type 0} (f g : ℕ → A) (N : ℕ) → listed f N ≡ listed g N → (n : ℕ) → n < N → f n ≡ g n
@@ -28,7 +29,7 @@ pub apart-past : (N n : ℕ) → Apart n N → N ≤ n
 apart-past zero n a = omega arith
 apart-past (suc k) n a = let l = apart-past k n (a .0) in ⊎-elim (λ m. absurd (a .1 (omega arith))) (λ m. m) (lt-or-ge n (suc k))
 
-pub entry-past : {A : Type 0} (l : List A) (n : ℕ) → length l ≤ n → entry l n ≡ none
+pub entry-past : {A : Type 0} (l : List A) (n : ℕ) → length l ≤ n → getElem? l n ≡ none
 entry-past [] n b = refl
 entry-past (a ∷ l) zero b = absurd (omega arith)
 entry-past (a ∷ l) (suc n) b = entry-past l n (omega arith)
@@ -38,10 +39,10 @@ placed same l none = none
 placed same l (some a) = some (place same l a)
 
 -- an entry's number is its place, where no entry stands twice
-pub entry-place : {A : Type 0} (same : Discrete A) (l : List A) → listed (λ n. placed same l (entry l n)) (length l) ≡ listed some (length l) →
-    (n : ℕ) (a : A) → entry l n ≡ some a → n ≡ place same l a
+pub entry-place : {A : Type 0} (same : Discrete A) (l : List A) → listed (λ n. placed same l (getElem? l n)) (length l) ≡ listed some (length l) →
+    (n : ℕ) (a : A) → getElem? l n ≡ some a → n ≡ place same l a
 entry-place same l once n a e =
-    ⊎-elim (λ b. let q = same-below (λ n. placed same l (entry l n)) some (length l) once n b in let p : some n ≡ some (place same l a) = sym q ∙ ap (placed same l) e in cc)
+    ⊎-elim (λ b. let q = same-below (λ n. placed same l (getElem? l n)) some (length l) once n b in let p : some n ≡ some (place same l a) = sym q ∙ ap (placed same l) e in cc)
     (λ b. let q = entry-past l n b in absurd (let z : _≡_ {A = ℕ} 0 1 = cc in omega arith)) (lt-or-ge n (length l))
 
 -- the number b is this one

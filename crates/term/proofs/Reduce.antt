@@ -5,41 +5,33 @@ use mathlib.Core.Bool.{false≢true}
 use native.Mathlib.Omega.{arith}
 use Prim.Native.Nat.{ℕ}
 use Rattle.base.proofs.Says.{Says}
-use Rattle.term.specs.Term.{Kind, plain, public, private, Cipher, symmetric, asymmetric, Side, left, right, Form, pair, encryption, Head, make, part, decrypt, Term, atom, node, test, term?, head?, isKey, Fits, turn, Match, Operands, Part}
-use Rattle.term.specs.Code.{builds, Message}
+use Rattle.term.specs.{Term.Kind, Term.plain, Term.public, Term.private, Term.Cipher, Term.symmetric, Term.asymmetric, Term.Side, Term.left, Term.right, Term.Form, Term.pair, Term.encryption, Term.Head, Term.make, Term.part, Term.decrypt, Term.Term, Term.atom, Term.node, Computed.term?, Computed.head?, Term.isKey, Term.inverse, Term.Match, Term.Part}
+use Rattle.base.specs.Words.{truth}
+use Rattle.term.specs.Code.{Message}
 use Rattle.term.specs.Computed.{match?}
-use Rattle.term.specs.Reduce.{cancelled, paired, parted, made, op}
+use Rattle.term.specs.Reduce.{cancelled, paired, parted, op}
 use Rattle.term.specs.Term.{pick}
 use Rattle.term.specs.Step.{Step}
 
 -- a decision as a test says what was decided
-pub says-test : {P : Type 0} (d : Dec P) → Says (test d) P
+pub says-test : {P : Type 0} (d : Dec P) → Says (truth d) P
 says-test (yes p) = (λ e. p, λ x. refl)
 says-test (no f) = (λ e. absurd (false≢true e), λ x. absurd (f x))
 
 -- ---- keys that match determine each other
-pub match-det : {c : Cipher} {k j j′ : Term} → Match c k j → Match c k j′ → j ≡ j′
-match-det p q = cc
+pub match-det : (c : Cipher) (k j j′ : Term) → Match c k j → Match c k j′ → j ≡ j′
+match-det symmetric k j j′ p q = cc
+match-det asymmetric k j j′ (f, p) (g, q) = cc
 
-turn-twice : (c : Cipher) (t : Term) → turn c (turn c t) ≡ t
-turn-twice symmetric t = refl
-turn-twice asymmetric (atom plain n) = refl
-turn-twice asymmetric (atom public n) = refl
-turn-twice asymmetric (atom private n) = refl
-turn-twice asymmetric (node h a b) = refl
+inverse-twice : (k : Term) → isKey k → isKey (inverse k) × (k ≡ inverse (inverse k))
+inverse-twice (atom plain n) f = absurd f
+inverse-twice (atom public n) f = (tt, refl)
+inverse-twice (atom private n) f = (tt, refl)
+inverse-twice (node h a b) f = absurd f
 
-turn-fits : (c : Cipher) (t : Term) → Fits c t → Fits c (turn c t)
-turn-fits symmetric t h = h
-turn-fits asymmetric (atom plain n) h = h
-turn-fits asymmetric (atom public n) h = tt
-turn-fits asymmetric (atom private n) h = tt
-turn-fits asymmetric (node g a b) h = h
-
-pub match-sym : {c : Cipher} {k j : Term} → Match c k j → Match c j k
-match-sym {c} {k} {j} m = record {
-  fits = subst (Fits c) (sym (m .turned)) (turn-fits c k (m .fits));
-  turned = sym (ap (turn c) (m .turned) ∙ turn-twice c k);
-}
+pub match-sym : (c : Cipher) (k j : Term) → Match c k j → Match c j k
+match-sym symmetric k j m = sym m
+match-sym asymmetric k j (f, e) = let (g, h) = inverse-twice k f in (subst isKey (sym e) g, h ∙ ap inverse (sym e))
 
 -- ---- the reductions
 -- a has the inner head over r, under a key that matches b
@@ -97,8 +89,8 @@ cancelled-reduced : (c : Cipher) (inner outer : Head) (x k b : Term) → Match c
 unfolding cancelled
 cancelled-reduced c inner outer x k b m = if-pos (Dec·and (head? inner inner) (match? c k b)) (refl, m) x _
 
-cancelled-reduces : (c : Cipher) (inner outer : Head) {a b r : Term} → Cancels c inner a b r → cancelled c inner outer a b ≡ r
-cancelled-reduces c inner outer {b = b} {r} u = ap (λ z. cancelled c inner outer z b) (u .1) ∙ cancelled-reduced c inner outer r (u .0) b (u .2)
+cancelled-reduces : (c : Cipher) (inner outer : Head) (a b r : Term) → Cancels c inner a b r → cancelled c inner outer a b ≡ r
+cancelled-reduces c inner outer a b r u = ap (λ z. cancelled c inner outer z b) (u .1) ∙ cancelled-reduced c inner outer r (u .0) b (u .2)
 
 parted-reduced : (s : Side) (x y b : Term) → parted s (node (make pair) x y) b ≡ pick s x y
 unfolding parted
@@ -112,9 +104,9 @@ paired-reduced x y z =
 pub op-reduces : (h : Head) (a b r : Term) → Reduces h a b r → op h a b ≡ r
 unfolding op
 op-reduces (make pair) a b r u = ap₂ paired (u .2) (u .3) ∙ paired-reduced r (u .0) (u .1)
-op-reduces (make (encryption c)) a b r u = cancelled-reduces c (decrypt c) (make (encryption c)) u
+op-reduces (make (encryption c)) a b r u = cancelled-reduces c (decrypt c) (make (encryption c)) a b r u
 op-reduces (part s) a b r u = ap (λ z. parted s z b) (u .2) ∙ parted-reduced s (u .0) (u .1) b ∙ sym (u .3)
-op-reduces (decrypt c) a b r u = cancelled-reduces c (make (encryption c)) (decrypt c) u
+op-reduces (decrypt c) a b r u = cancelled-reduces c (make (encryption c)) (decrypt c) a b r u
 
 -- ---- over messages a form reduces nothing, and the machine does what the rule says
 message-unreduced : (f : Form) (a b r : Term) → Message a → Reduces (make f) a b r → ⊥

@@ -9,10 +9,11 @@ use native.Mathlib.Omega.{arith}
 use lib.Dec.{eqb, leb}
 use lib.ListN.{length, List·getD-eq-default}
 use borrow.Author.Tests.{eq-eqb, ne-eqb, lt-ltb, le-ltb, leb-true}
-use Rattle.base.specs.Grow.{grow, listed}
+use Rattle.base.specs.Lists.{grow, listed}
 use Rattle.base.proofs.Order.{lt-or-ge}
 use Rattle.base.proofs.Says.{Says}
-use Rattle.term.specs.Term.{symmetric, asymmetric, left, right, pair, encryption, Head, make, part, decrypt, head?, single, test}
+use Rattle.term.specs.{Term.symmetric, Term.asymmetric, Term.left, Term.right, Term.pair, Term.encryption, Term.Head, Term.make, Term.part, Term.decrypt, Computed.head?, Term.single}
+use Rattle.base.specs.Words.{truth}
 use Rattle.term.specs.Rule.{table, rules, isRule, heads, wordOf, headOf, hasOne}
 use Rattle.term.specs.Code.{ruleOf}
 use Rattle.term.specs.Computed.{isHead, takesApart, ruleTakesApart}
@@ -53,7 +54,7 @@ rule-below h =
 -- a number that is no rule has no word, and a word is short
 pub no-word : (n : ℕ) → rules ≤ n → wordOf n ≡ []
 unfolding wordOf
-no-word n l = List·getD-eq-default (map (λ r. r .word) table) [] l
+no-word n l = List·getD-eq-default (map (λ r. r .1) table) [] l
 
 pub word-length : (n : ℕ) → length (wordOf n) ≤ 4
 unfolding wordOf grow
@@ -98,7 +99,7 @@ rule-of b (some h) =
     ⊎-elim (λ l. rw (lt-ltb b rules l) (below (head? h (headOf b)) l))
     (λ l. rw (le-ltb b rules l, ne-eqb b (ruleOf h) (λ e. omega (arith, rule-below h)))) (lt-or-ge b rules)
   where
-    below : (d : Dec (h ≡ headOf b)) → b < rules → eqb b (ruleOf h) ≡ test d
+    below : (d : Dec (h ≡ headOf b)) → b < rules → eqb b (ruleOf h) ≡ truth d
     below (yes e) l = eq-eqb b (ruleOf h) (sym (rule-head b l) ∙ sym (ap ruleOf e))
     below (no f) l = ne-eqb b (ruleOf h) (λ e. f (sym (head-rule h) ∙ sym (ap headOf e)))
 

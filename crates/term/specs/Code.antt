@@ -1,19 +1,19 @@
 -- What the code's enums and answers mean in document 01's terms, and notions that only proofs use.
 use Rattle.term.specs.declared.Relation.{Relation as RelationGiven}
 use Rattle.term.specs.declared.Relation.the-variants.{Equal, Inverse}
-use Rattle.term.specs.{Relation.Relation, Relation.equal, Relation.inverse, Term.Second, Term.absent, Term.second, Term.unary, Term.make, Term.Shape, Term.atomic, Term.compound, Term.Head, Term.part, Term.decrypt, Term.head?, Term.Term, Term.atom, Term.node, Term.Operands, Numbered.place, Rule.rules, Rule.heads, Table.Rec, Table.leaf, Table.branch, Table.message}
+use Rattle.term.specs.{Term.Relation, Term.equal, Term.inverses, Term.Second, Term.absent, Term.second, Term.unary, Term.make, Term.Shape, Term.atomic, Term.compound, Term.Head, Term.part, Term.decrypt, Computed.head?, Term.Term, Term.atom, Term.node, Term.Operands, Computed.place, Rule.rules, Rule.heads, Table.Rec, Table.leaf, Table.branch, Table.message}
 use mathlib.Core.{Bool.Bool, Bool.false, Option.Option, Option.none, Option.some, Path._≡_}
 use Prim.Native.Nat.{ℕ, _<_}
 
 abbrev pub relationIs : RelationGiven → Relation
 relationIs Equal = equal
-relationIs Inverse = inverse
+relationIs Inverse = inverses
 
 -- a record of this shape has one operand
 abbrev pub isUnary : Option Shape → Bool
 isUnary none = false
 isUnary (some (atomic κ)) = false
-isUnary (some (compound f)) = unary f
+isUnary (some (compound f)) = unary (second f)
 
 -- the number of a head's rule
 abbrev pub ruleOf : Head → ℕ
@@ -44,7 +44,7 @@ pub record Table (rec : ℕ → Rec) (N : ℕ) (T : ℕ → Term) : Type 0 where
 
 -- the heads that build a listed term from its operands
 abbrev pub builds : Head → Term → Term → Type 0
-builds (make f) a b = Operands f a b
+builds (make f) a b = Operands (second f) a b
 builds (part s) a b = ⊥
 builds (decrypt c) a b = ⊥
 

@@ -1,7 +1,31 @@
--- Decisions and tests of what the other files define; their types, or the laws `says-part` and `says-takes-apart`, say what they decide.
-use mathlib.Core.{Path._≡_, Bool.Bool, Bool._||_, Bool.false, Bool._&&_, Option.Option, Option.none, Option.some}
-use Rattle.term.specs.{Term.plain, Term.public, Term.private, Term.Cipher, Term.symmetric, Term.asymmetric, Term.Head, Term.Term, Term.atom, Term.node, Term.head?, Term.term?, Term.isKey, Term.Fits, Term.turn, Term.Match, Term.test, Step.takenBy, Rule.isRule, Rule.headOf}
-use Prim.Native.Nat.{ℕ}
+-- Decisions and tests of what the other files define; their types, or the laws `says-part`, `says-takes-apart` and `inverse-kinds-are`, say what
+-- they decide.
+use Rattle.base.specs.Words.{Dec·and, Bool, false, _||_, _&&_, cond, Option, none, some, List, [], _∷_, ℕ, suc, eqb, truth}
+use native.Mathlib.Decide.{ℕ-discrete}
+use Rattle.term.specs.{Term.Kind-discrete, Term.Cipher-discrete, Term.Side-discrete, Term.Form-discrete, Term.Head-discrete, Term.Term-discrete, Term.Shape-discrete, Term.plain, Term.public, Term.private, Term.Cipher, Term.symmetric, Term.asymmetric, Term.Head, Term.Term, Term.atom, Term.node, Term.Shape, Term.atomic, Term.isKey, Term.inverse, Term.Match, Kind.kinds, Step.takenBy, Rule.isRule, Rule.headOf}
+
+abbrev pub head? : Discrete Head
+head? = Head-discrete (Form-discrete Cipher-discrete) Side-discrete Cipher-discrete
+
+abbrev pub term? : Discrete Term
+term? = Term-discrete Kind-discrete ℕ-discrete head?
+
+abbrev pub shape? : Discrete Shape
+shape? = Shape-discrete Kind-discrete (Form-discrete Cipher-discrete)
+
+-- the place of an entry in a list
+abbrev pub place : {A : Type 0} → Discrete A → List A → A → ℕ
+place same [] x = 0
+place same (a ∷ l) x = cond (truth (same x a)) 0 (suc (place same l x))
+
+-- the kind of a shape
+abbrev pub kindOf : Shape → ℕ
+kindOf z = suc (place shape? kinds z)
+
+-- kinds of keys that are each other's inverse, where they have one name
+abbrev pub inverseKinds : ℕ → ℕ → Bool
+inverseKinds k j =
+    (eqb k (kindOf (atomic public)) && eqb j (kindOf (atomic private))) || (eqb k (kindOf (atomic private)) && eqb j (kindOf (atomic public)))
 
 unfoldable pub isKey? : (t : Term) → Dec (isKey t)
 isKey? (atom plain n) = no (λ x. x)
@@ -9,27 +33,19 @@ isKey? (atom public n) = yes tt
 isKey? (atom private n) = yes tt
 isKey? (node h a b) = no (λ x. x)
 
-unfoldable pub fits? : (c : Cipher) (k : Term) → Dec (Fits c k)
-fits? symmetric k = yes tt
-fits? asymmetric k = isKey? k
-
 unfoldable pub match? : (c : Cipher) (k j : Term) → Dec (Match c k j)
-match? c k j = go (fits? c k) (term? j (turn c k))
-  where
-    go : Dec (Fits c k) → Dec (j ≡ turn c k) → Dec (Match c k j)
-    go (yes f) (yes e) = yes (record { fits = f; turned = e })
-    go (yes f) (no e) = no (λ m. e (m .turned))
-    go (no f) e = no (λ m. f (m .fits))
+match? symmetric k j = term? j k
+match? asymmetric k j = Dec·and (isKey? k) (term? j (inverse k))
 
 -- x is a part of t, as a test
 unfoldable pub isPart : Term → Term → Bool
-isPart x (atom κ n) = test (term? x (atom κ n))
-isPart x (node h a b) = test (term? x (node h a b)) || (isPart x a || isPart x b)
+isPart x (atom κ n) = truth (term? x (atom κ n))
+isPart x (node h a b) = truth (term? x (node h a b)) || (isPart x a || isPart x b)
 
 -- the head h takes apart what the head b builds, computed
 abbrev pub isHead : Head → Option Head → Bool
 isHead b none = false
-isHead b (some h) = test (head? h b)
+isHead b (some h) = truth (head? h b)
 
 abbrev pub takesApart : Head → Head → Bool
 takesApart h b = isHead b (takenBy h)

@@ -1,10 +1,7 @@
 pub mod Code
 pub mod Computed
-pub mod Fresh
 pub mod Kind
-pub mod Numbered
 pub mod Reduce
-pub mod Relation
 pub mod Rule
 pub mod Step
 pub mod Table

@@ -1,7 +1,7 @@
 -- The machine's step over terms: document 01, 'Machine'.
 -- "Each rule forms a term with its own head .. unless one of these reductions applies to it."
-use mathlib.Core.Logic.{ite, Dec·and}
-use Rattle.term.specs.{Term.Cipher, Term.Side, Term.left, Term.right, Term.Form, Term.pair, Term.encryption, Term.Head, Term.make, Term.part, Term.decrypt, Term.Term, Term.atom, Term.node, Term.head?, Term.term?, Term.pick, Computed.match?}
+use Rattle.base.specs.Words.{ite, Dec·and}
+use Rattle.term.specs.{Term.Cipher, Term.Side, Term.left, Term.right, Term.Form, Term.pair, Term.encryption, Term.Head, Term.make, Term.part, Term.decrypt, Term.Term, Term.atom, Term.node, Computed.head?, Computed.term?, Term.pick, Computed.match?}
 
 -- two heads that cancel: the outer head over a term with the inner head gives that term's first operand where the keys match
 unfoldable pub cancelled : Cipher → Head → Head → Term → Term → Term

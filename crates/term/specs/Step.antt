@@ -1,10 +1,10 @@
 -- Dolev-Yao steps over all terms, and finite lists of them: document 01, 'Dolev-Yao steps'.
-use mathlib.Core.{Path._≡_, Logic._⊎_, List.List, List.[], List._∷_, Option.Option, Option.none, Option.some}
-use Rattle.term.specs.Term.{pair, encryption, Head, make, part, decrypt, Term, node, Operands, Match, pick}
+use Rattle.base.specs.Words.{_≡_, _⊎_, List, [], _∷_, Option, none, some}
+use Rattle.term.specs.Term.{pair, encryption, Head, make, part, decrypt, Term, node, second, Operands, Match, pick}
 
 -- The table's rows: the rule h concludes t from the premises p and q. The one premise of fst and snd counts as both.
 abbrev pub Step : Head → Term → Term → Term → Type 0
-Step (make f) p q t = Operands f p q × (t ≡ node (make f) p q)
+Step (make f) p q t = Operands (second f) p q × (t ≡ node (make f) p q)
 Step (part s) p q t = ((x y : Term) × (p ≡ node (make pair) x y) × (t ≡ pick s x y)) × (q ≡ p)
 Step (decrypt c) p q t = (k : Term) × (p ≡ node (make (encryption c)) t k) × Match c k q
 

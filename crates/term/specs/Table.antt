@@ -1,9 +1,6 @@
 -- A table of records: each is an atom, or a head over the numbers of two earlier records.
 -- The submission's terms are such a table, and so are the terms that the machine holds.
-use mathlib.Core.List.{List, []}
-use Prim.Native.Nat.{ℕ}
-use lib.ListN.{getD}
-use Rattle.base.specs.Grow.{grow}
+use Rattle.base.specs.{Words.List, Words.[], Words.ℕ, Words.getD, Lists.grow}
 use Rattle.term.specs.Term.{Kind, plain, Head, Term, atom, node}
 
 pub data Rec : Type 0 where

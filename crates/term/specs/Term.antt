@@ -1,8 +1,6 @@
 -- Terms, keys and parts: document 01, 'The submission' and 'The register program'.
 -- A term is an atom, or a head over its operands. The numbers of kinds and rules are in `Kind` and `Rule`.
-use mathlib.Core.{Path._≡_, Logic._⊎_, Bool.Bool, Bool.true, Bool.false, Option.Option, Option.none, Option.some}
-use Prim.Native.Nat.{ℕ}
-use native.Mathlib.Decide.{ℕ-discrete}
+use Rattle.base.specs.Words.{_≡_, _⊎_, Bool, true, false, Option, none, some, ℕ, truth, Holds}
 
 -- "plain atom", "public key", "private key"
 pub data Kind : Type 0 where
@@ -39,14 +37,11 @@ abbrev pub second : Form → Second
 second pair = anything
 second (encryption c) = keyFor c
 
-abbrev pub isAbsent : Second → Bool
-isAbsent absent = true
-isAbsent anything = false
-isAbsent (keyFor c) = false
-
--- a form with one operand
-abbrev pub unary : Form → Bool
-unary f = isAbsent (second f)
+-- one operand stands alone
+abbrev pub unary : Second → Bool
+unary absent = true
+unary anything = false
+unary (keyFor c) = false
 
 -- The rules' words: pair, enc and enca make a term of their form; fst and snd are the two parts; dec and deca decrypt.
 pub data Head : Type 0 where
@@ -56,7 +51,7 @@ pub data Head : Type 0 where
   deriving Discrete as Head-discrete
 
 abbrev pub single : Head → Bool
-single (make f) = unary f
+single (make f) = unary (second f)
 single (part s) = true
 single (decrypt c) = false
 
@@ -65,17 +60,6 @@ pub data Term : Type 0 where
   atom : Kind → ℕ → Term
   node : Head → Term → Term → Term
   deriving Discrete as Term-discrete
-
-abbrev pub head? : Discrete Head
-head? = Head-discrete (Form-discrete Cipher-discrete) Side-discrete Cipher-discrete
-
-abbrev pub term? : Discrete Term
-term? = Term-discrete Kind-discrete ℕ-discrete head?
-
--- a decision as a test
-abbrev pub test : {P : Type 0} → Dec P → Bool
-test (yes p) = true
-test (no p) = false
 
 -- "Keys of kinds 2 and 3 with one name are each other's inverse."
 abbrev pub otherKind : Kind → Kind
@@ -88,11 +72,6 @@ keyKind plain = false
 keyKind public = true
 keyKind private = true
 
--- a test as a proposition that computes
-abbrev pub Holds : Bool → Type 0
-Holds true = Unit {0}
-Holds false = ⊥
-
 abbrev pub isKey : Term → Type 0
 isKey (atom κ n) = Holds (keyKind κ)
 isKey (node h a b) = ⊥
@@ -102,26 +81,15 @@ inverse (atom κ n) = atom (otherKind κ) n
 inverse (node h a b) = node h a b
 
 -- A key k of one operation and the key j of the opposite one: equal terms, or a key and its inverse.
-abbrev pub Fits : Cipher → Term → Type 0
-Fits symmetric k = Unit {0}
-Fits asymmetric k = isKey k
-
-abbrev pub turn : Cipher → Term → Term
-turn symmetric k = k
-turn asymmetric k = inverse k
-
-pub record Match (c : Cipher) (k j : Term) : Type 0 where
-  pub fits : Fits c k
-  pub turned : j ≡ turn c k
+abbrev pub Match : Cipher → Term → Term → Type 0
+Match symmetric k j = j ≡ k
+Match asymmetric k j = isKey k × (j ≡ inverse k)
 
 -- what a term is: an atom of a kind, or made as a form; a term of another head is neither, and no record lists it
 pub data Shape : Type 0 where
   atomic : Kind → Shape
   compound : Form → Shape
   deriving Discrete as Shape-discrete
-
-abbrev pub shape? : Discrete Shape
-shape? = Shape-discrete Kind-discrete (Form-discrete Cipher-discrete)
 
 abbrev pub shape : Term → Option Shape
 shape (atom κ n) = some (atomic κ)
@@ -138,7 +106,7 @@ isAtomic (some (compound f)) = false
 abbrev pub isKeyFor : Cipher → Option Shape → Bool
 isKeyFor c none = false
 isKeyFor c (some (compound f)) = false
-isKeyFor symmetric (some (atomic κ)) = test (Kind-discrete κ plain)
+isKeyFor symmetric (some (atomic κ)) = truth (Kind-discrete κ plain)
 isKeyFor asymmetric (some (atomic κ)) = keyKind κ
 
 -- a term of this shape can be that operand
@@ -148,15 +116,21 @@ takes anything z = true
 takes (keyFor c) z = isKeyFor c z
 
 -- a and b are such operands of a listed term; one that stands alone stands twice
-abbrev pub OperandsAs : Second → Term → Term → Type 0
-OperandsAs absent a b = b ≡ a
-OperandsAs anything a b = Unit {0}
-OperandsAs (keyFor c) a b = isKeyFor c (shape b) ≡ true
-
-abbrev pub Operands : Form → Term → Term → Type 0
-Operands f a b = OperandsAs (second f) a b
+abbrev pub Operands : Second → Term → Term → Type 0
+Operands absent a b = b ≡ a
+Operands anything a b = Unit {0}
+Operands (keyFor c) a b = isKeyFor c (shape b) ≡ true
 
 -- "Part .. means the message itself or anything it is made from at any depth, keys included": x is a part of t
 abbrev pub Part : Term → Term → Type 0
 Part x (atom κ n) = x ≡ atom κ n
 Part x (node h a b) = (x ≡ node h a b) ⊎ (Part x a ⊎ Part x b)
+
+-- Freshness, which demand 3 asks of a wrong guess: neither w nor its inverse is part of a message in K; a plain atom is its own inverse here
+pub record Fresh (K : Term → Type 0) (w : Term) : Type 0 where
+  pub apart : (t : Term) → K t → Part w t → ⊥
+  pub inverseApart : (t : Term) → K t → Part (inverse w) t → ⊥
+
+-- What a test asks of two terms: "`=` signals 1 for equal terms, `i` when the first is a key and the second its inverse."
+pub data Relation : Type 0 where
+  equal inverses : Relation

@@ -9,14 +9,17 @@ use native.Mathlib.Omega.{arith}
 use lib.Dec.{eqb}
 use lib.ListN.{getD}
 use borrow.Author.Tests.{ne-eqb}
-use Rattle.base.specs.Grow.{listed}
+use Rattle.base.specs.Lists.{listed}
 use Rattle.term.specs.Rule.{rules, wordOf, hasOne}
 use Rattle.term.proofs.Numbered.{same-below}
 use Rattle.term.proofs.Rule.{no-word}
 use Rattle.base.specs.Answer.{done}
-use Rattle.program.specs.Tests.{relationOf, relationWord}
+use Rattle.program.specs.Tests.{relationOf, relationWord, rowOf}
 use Rattle.program.specs.Program.{Instruction, Test, instructionAt, testAt}
+use Rattle.term.specs.declared.Relation.{Relation}
+use Rattle.term.specs.Code.{relationIs}
 use Rattle.program.specs.declared.Asked.{Asked}
+use Rattle.program.specs.declared.Asked.the-variants.{Asks, Nothing}
 use Rattle.program.specs.declared.Instruction.{Instruction as InstructionRead}
 use Rattle.program.specs.declared.Test.{Test as TestRead}
 use Rattle.program.specs.Code.{relationIn, instructionIn, testIn}
@@ -50,9 +53,13 @@ module _ {rule k : ℕ} (e : k ≡ rule) where
       listed (wordIn words) rules ≡ listed wordOf rules → Puts a i (wordOf rule) b j
   rule-put words l p t = rw (← e, ← (same-below (wordIn words) wordOf rules t k (omega arith))) p
 
-module _ {a : List ℕ} {i : ℕ} (letter : ℕ) {r v : Asked} (e : relationIn r ≡ relationOf letter) (k : r ≡ v) where
-  pub relation-put : {b : List ℕ} {j : ℕ} → Puts a i (relationWord (relationIn v)) b j → Puts a i (relationWord (relationOf letter)) b j
-  relation-put p = rw (← e, k) p
+-- a test's word; a letter that is none has no word
+module _ {a : List ℕ} {i : ℕ} (letter : ℕ) {r : Asked} (e : relationIn r ≡ relationOf letter) where
+  pub no-relation-put : r ≡ Nothing → Puts a i (relationWord (relationOf letter)) a i
+  no-relation-put k = rw (← e, k) puts-none
+
+  pub relation-put : {x y : Relation} {b : List ℕ} {j : ℕ} → r ≡ Asks x → x ≡ y → Puts a i (rowOf (relationIs y) .word) b j → Puts a i (relationWord (relationOf letter)) b j
+  relation-put k h p = rw (← e, k, h) p
 
 -- the second register: none under fst and snd
 module _ {a : List ℕ} {i : ℕ} (rule second : ℕ) where

@@ -1,7 +1,5 @@
 -- What the code's results mean: a text put into a buffer.
-use mathlib.Core.{Path._≡_, List.List}
-use Prim.Native.Nat.{ℕ, _+_, _-_, min}
-use lib.{ListN.length, Seq.sets}
+use Rattle.base.specs.Words.{_≡_, List, ℕ, _+_, _-_, min, length, sets}
 
 -- the text is stored in the buffer old from place i on, as far as the buffer reaches: new is the buffer afterwards, j the place reached
 pub record Puts (old : List ℕ) (i : ℕ) (text new : List ℕ) (j : ℕ) : Type 0 where

@@ -1,9 +1,6 @@
 -- What the program `verdict` prints, as bytes: document 01, after 'Marked examples'.
-use mathlib.Core.{Bool.true, Bool.false, Bool.cond, List.List, List.[], List._∷_, List._++_}
-use Prim.Native.Nat.{ℕ, zero, suc, _+_, _/_, _%_}
-use lib.Dec.{ltb}
+use Rattle.base.specs.{Words.true, Words.false, Words.cond, Words.List, Words.[], Words._∷_, Words._++_, Words.ℕ, Words.zero, Words.suc, Words._+_, Words._/_, Words._%_, Words.ltb, Answer.Answer, Answer.done, Answer.refused}
 use Rattle.term.specs.Rule.{wordOf, hasOne}
-use Rattle.base.specs.Answer.{Answer, done, refused}
 use Rattle.program.specs.{Tests.relationOf, Tests.relationWord, Program.Instruction, Program.Test, Program.instructionAt, Program.testAt}
 
 -- a number in decimal, in ASCII; a number has fewer digits than itself and one

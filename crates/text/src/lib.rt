@@ -4,6 +4,7 @@
 use base::wide;
 use base::wide16;
 use program::Asked;
+use term::Relation;
 use term::rules;
 ghost use mathlib.Core.Path.{_≡_};
 ghost use mathlib.Core.Bool.{cond};
@@ -132,11 +133,12 @@ fn put_steps(out: &mut [u8], from: usize, r: u16, page: &[u8], n: u8) -> usize
 fn put_relation(out: &mut [u8], at: usize, letter: u8) -> usize
     ensures { λ r. ⌜ Puts (now (out .entry)) at (relationWord (relationOf letter)) (now (out .exit)) r ⌝ }
 {
-    let relation = program::relation_of(letter);
+    let Asked::Asks(relation) = program::relation_of(letter) else {
+        return at;
+    };
     match relation {
-        Asked::Equal => put_word(out, at, b"="),
-        Asked::Inverse => put_word(out, at, b"hasinv"),
-        Asked::Unknown => at,
+        Relation::Equal => put_word(out, at, b"="),
+        Relation::Inverse => put_word(out, at, b"hasinv"),
     }
 }
 

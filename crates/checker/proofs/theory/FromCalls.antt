@@ -1,13 +1,13 @@
 -- The demands, from what the calls themselves return: a verdict and the page after the call, an answer of `deducible` or of `run`.
-use mathlib.Core.Path.{_≡_, refl, sym, ap, _∙_, subst}
+use mathlib.Core.Path.{_≡_, sym, ap, _∙_, subst}
 use mathlib.Core.Logic.{_↔_, Iff·trans}
 use mathlib.Core.List.{List}
 use Prim.Native.Nat.{ℕ, _≤_, _<_}
 use lib.ListN.{length, take}
 use Rattle.base.specs.declared.Answer.{Answer as AnswerGiven}
 use Rattle.base.specs.declared.Answer.the-variants as given
-use Rattle.base.specs.Answer.{Answer, done, refused, passes, pageAfter}
-use Rattle.base.specs.Bytes.{Bytes}
+use Rattle.base.specs.Answer.{done, refused, passes, pageAfter}
+use Rattle.base.specs.Lists.{Bytes}
 use Rattle.base.specs.Calls.{answerOf}
 use Rattle.term.specs.Step.{Deducible}
 use Rattle.submission.specs.Record.{terms, steps, guess, nameAt, term, InKnowledge}
@@ -24,7 +24,7 @@ use Rattle.conditions.specs.Calls.{verdictAnswer, Checked}
 use Rattle.conditions.specs.Check.{checkAnswer}
 use Rattle.conditions.specs.Condition.{WellFormed, FiveConditions}
 use Rattle.conditions.specs.Page.{program, pageChecked}
-use Rattle.conditions.specs.Wrong.{WrongGuess}
+use Rattle.conditions.specs.Demand.{WrongGuess}
 use Rattle.conditions.specs.Demand.{KeptPromise}
 use Rattle.conditions.proofs.theory.Acceptance.{accepted-iff}
 use Rattle.conditions.proofs.theory.Promise.{demand-3}

@@ -11,15 +11,15 @@ use native.Mathlib.Decide.{decLt}
 use lib.ListN.{length, take, length-take, List·getD-eq-default}
 use lib.Seq.{getD-take}
 use borrow.Author.Tests.{ne-eqb}
-use Rattle.base.specs.First.{any}
+use Rattle.base.specs.Lists.{any}
 use Rattle.base.proofs.BoolLaws.{or-right}
 use Rattle.base.specs.Answer.{refused}
-use Rattle.base.specs.Bytes.{Bytes}
+use Rattle.base.specs.Lists.{Bytes}
 use Rattle.submission.specs.Contents.{start, wrongLetter, wrongStart, badContents}
 use Rattle.submission.specs.Check.{checks1to4, checks1to5}
 use Rattle.text.specs.Text.{answerText, refusedText}
 use Rattle.conditions.specs.Check.{checks1to10, checkAnswer}
-use Rattle.checker.specs.Text.{verdictText}
+use Rattle.checker.specs.Calls.{verdictText}
 
 -- the bodies end at byte 3,076 at the latest
 end-small : (s : List ℕ) → Bytes s → start s 4 ≤ 3076

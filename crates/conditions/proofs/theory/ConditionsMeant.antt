@@ -16,14 +16,16 @@ use Rattle.term.proofs.Rule.{head-inj, says-takes-apart}
 use Rattle.submission.specs.Record.{terms, steps, ruleAt, pAt, conclusionAt, entryAt, guess, verifying, wayAt, companion, term, InKnowledge}
 use Rattle.submission.specs.Way.{Way, another-step, at-start, inverse-key, wayOf, row}
 use Rattle.submission.proofs.theory.ListedTerms.{Claimed, InRange}
-use Rattle.derivation.specs.Register.{isKnown}
-use Rattle.derivation.specs.Step.{secondAt, unfounded}
+use Rattle.derivation.specs.Computed.{isKnown}
+use Rattle.submission.specs.Record.{secondAt}
+use Rattle.derivation.specs.Computed.{unfounded}
 use Rattle.derivation.proofs.theory.RegisterTerms.{KnownNumber, says-known}
-use Rattle.derivation.proofs.theory.StepMeaning.{SoundStep, founded-iff}
+use Rattle.derivation.proofs.theory.StepMeaning.{second-listed, founded-iff}
 use Rattle.deduction.specs.Computed.{entryMarks, isDeducible}
 use Rattle.deduction.proofs.theory.Exactness.{deducible-iff}
 use Rattle.conditions.specs.Computed.{reachable, isPremise, samePremises, hasSecondWay, undoesStep, companionUndoes, undone}
-use Rattle.conditions.specs.Condition.{rule, firstPremise, secondPremise, concluded, Known, Premise, Differs, SecondWay, UndoesNone}
+use Rattle.derivation.specs.Step.{rule, firstPremise, secondPremise, concluded, Known, StepFits}
+use Rattle.conditions.specs.Condition.{Premise, Differs, SecondWay, UndoesNone}
 
 -- before step 0 the knowledge and the guess are known
 known-at-start : (s : List ℕ) (t : Term) → Known s 0 t ↔ (InKnowledge s t ⊎ (t ≡ term s (guess s)))
@@ -34,7 +36,7 @@ known-at-start s t = (up, ⊎-elim (λ k. inl k) (λ e. inr (inl e)))
     up (inr (inl e)) = inr e
     up (inr (inr (j, l, e))) = absurd (omega arith)
 
-module _ {s : List ℕ} (c : Claimed s) (sound : (i : ℕ) → i < steps s → SoundStep s i) where
+module _ {s : List ℕ} (c : Claimed s) (sound : (i : ℕ) → i < steps s → StepFits s i) where
   open Claimed c using (read)
 
   -- numbers and terms
@@ -63,7 +65,7 @@ module _ {s : List ℕ} (c : Claimed s) (sound : (i : ℕ) → i < steps s → S
 
   pub founded-terms : (i : ℕ) → i < steps s → (unfounded s i ≡ false) ↔ (Known s i (firstPremise s i) × Known s i (secondPremise s i))
   founded-terms i l =
-      Iff·trans (founded-iff s i) (Iff·and (known-iff i (pAt s i) (omega arith) (sound i l .p-below)) (known-iff i (secondAt s i) (omega arith) (sound i l .second-below)))
+      Iff·trans (founded-iff s i) (Iff·and (known-iff i (pAt s i) (omega arith) (sound i l .p-below)) (known-iff i (secondAt s i) (omega arith) (second-listed (sound i l))))
 
   -- ---- condition 3
   hidden-iff : (n : ℕ) → n < terms s → (isDeducible s (entryMarks s) n ≡ false) ↔ (Deducible (InKnowledge s) (term s n) → ⊥)
@@ -74,7 +76,7 @@ module _ {s : List ℕ} (c : Claimed s) (sound : (i : ℕ) → i < steps s → S
   reachable-iff =
       let v = sound (verifying s) (c .verifying-below) in
       let p = hidden-iff (pAt s (verifying s)) (v .p-below) in
-      let q = hidden-iff (secondAt s (verifying s)) (v .second-below) in
+      let q = hidden-iff (secondAt s (verifying s)) (second-listed v) in
       Iff·trans (and-false _ _) (
         ⊎-elim (λ e. (firstPremise s (verifying s), inl refl, p .0 e)) (λ e. (secondPremise s (verifying s), inr refl, q .0 e)),
         λ (x, m, f). ⊎-elim (λ e. inl (p .1 (λ d. f (rw e d)))) (λ e. inr (q .1 (λ d. f (rw e d)))) m,
@@ -82,12 +84,12 @@ module _ {s : List ℕ} (c : Claimed s) (sound : (i : ℕ) → i < steps s → S
 
   -- ---- condition 4
   says-premise : (i n : ℕ) → i < steps s → n < terms s → Says (isPremise s i n) (Premise s i (term s n))
-  says-premise i n l b = says-or _ _ (says-same n (pAt s i) b (sound i l .p-below)) (says-same n (secondAt s i) b (sound i l .second-below))
+  says-premise i n l b = says-or _ _ (says-same n (pAt s i) b (sound i l .p-below)) (says-same n (secondAt s i) b (second-listed (sound i l)))
 
   -- each premise of step i is one of step j
   says-premises : (i j : ℕ) → i < steps s → j < steps s → Says (isPremise s j (pAt s i) && isPremise s j (secondAt s i)) ((x : Term) → Premise s i x → Premise s j x)
   says-premises i j l m =
-      let w = says-and _ _ (says-premise j (pAt s i) m (sound i l .p-below)) (says-premise j (secondAt s i) m (sound i l .second-below)) in
+      let w = says-and _ _ (says-premise j (pAt s i) m (sound i l .p-below)) (says-premise j (secondAt s i) m (second-listed (sound i l))) in
       Iff·trans w (
         λ (p, q) x. ⊎-elim (λ e. subst (Premise s j) (sym e) p) (λ e. subst (Premise s j) (sym e) q),
         λ f. (f (firstPremise s i) (inl refl), f (secondPremise s i) (inr refl)),
@@ -115,7 +117,7 @@ module _ {s : List ℕ} (c : Claimed s) (sound : (i : ℕ) → i < steps s → S
   says-way inverse-key l =
       let i = read .inverse-iff (conclusionAt s (verifying s)) (companion s) (sound _ (c .verifying-below) .conclusion-below) l in
       Iff·trans (says-and _ _ i (says-known-term (steps s) (companion s) (omega arith) l))
-      (λ (m, k). (m .fits, m .turned, k), λ (f, e, k). (record { fits = f; turned = e }, k))
+      (λ ((f, e), k). (f, e, k), λ (f, e, k). ((f, e), k))
 
   pub second-way-iff : (hasSecondWay s (wayOf (wayAt s)) ≡ true) ↔ SecondWay s (wayOf (wayAt s))
   second-way-iff = rw (c .has-way) (says-way (c .way) (c .in-range))

@@ -5,7 +5,6 @@ use mathlib.Core.List.{List}
 use mathlib.Core.Logic.{⊎-elim}
 use Prim.Native.Nat.{ℕ, zero, suc, _≤_, _<_}
 use native.Mathlib.Omega.{arith}
-use lib.Dec.{eqb}
 use lib.ListN.{length, getD}
 use borrow.Author.Tests.{eqb-true, eq-eqb}
 use Rattle.base.proofs.First.{first-found}
@@ -17,14 +16,14 @@ use Rattle.term.specs.Table.{void}
 use Rattle.term.specs.Reduce.{op}
 use Rattle.term.specs.Rule.{headOf, hasOne}
 use Rattle.submission.specs.Record.{entries, steps, entryAt, ruleAt, pAt, qAt, guess, term}
-use Rattle.derivation.specs.Register.{registerTerm, written, holdsTerm, every, isKnown}
-use Rattle.derivation.specs.Step.{secondAt}
+use Rattle.derivation.specs.{Register.registerTerm, Register.written, Register.holdsTerm, Register.every, Computed.isKnown}
+use Rattle.submission.specs.Record.{secondAt}
 use Rattle.derivation.proofs.theory.RegisterTerms.{entry-register, guess-register, result-register}
 use Rattle.program.specs.Program.{bytesOf, programLength, instructionAt, operand}
 use Rattle.machine.specs.Run.{guessed, executed, registers}
 use Rattle.program.proofs.theory.Bytes.{program-length, instruction-back}
 use Rattle.machine.proofs.theory.RunRegisters.{register-kept, register-written, register-entry, register-guess}
-use Rattle.conditions.specs.Condition.{rule, firstPremise, secondPremise, concluded}
+use Rattle.derivation.specs.Step.{rule, firstPremise, secondPremise, concluded}
 use Rattle.conditions.specs.Page.{lowest, instruction, program}
 
 module _ (s : List ℕ) where
@@ -34,7 +33,7 @@ module _ (s : List ℕ) where
   unfolding lowest
   lowest-holds t r l e =
       let (k, f, b, h) = first-found (holdsTerm every s t) (written s (steps s)) r l (eq-eqb (registerTerm s r) t e) in
-      rw f (eqb-true (registerTerm s k) t h, b)
+      rw (f, lowest) (eqb-true (registerTerm s k) t h, b)
 
   -- a known term is held by a register that is written; at the start these are the knowledge's and the guess's
   pub lowest-known : (i t : ℕ) → i ≤ steps s → isKnown s i t ≡ true → (registerTerm s (lowest s t) ≡ t) × (lowest s t < written s i)

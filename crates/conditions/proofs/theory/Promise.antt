@@ -2,11 +2,11 @@
 -- and every well-formed submission that meets the five conditions, with page enough, is accepted.
 use mathlib.Core.Path.{_≡_, refl, ap, sym, _∙_}
 use mathlib.Core.List.{List, _++_}
-use Prim.Native.Nat.{ℕ, _≤_}
+use Prim.Native.Nat.{ℕ}
 use lib.ListN.{length, take, drop}
 use lib.Seq.{take-at, drop-at}
 use Rattle.base.specs.Answer.{done}
-use Rattle.base.specs.Bytes.{Bytes}
+use Rattle.base.specs.Lists.{Bytes}
 use Rattle.submission.specs.Record.{steps, guess, nameAt}
 use Rattle.program.specs.Program.{bytesOf, programLength}
 use Rattle.machine.specs.Run.{signal, runAnswer}

@@ -9,34 +9,35 @@ use native.Mathlib.Omega.{arith}
 use lib.Dec.{eqb, ltb}
 use lib.ListN.{length}
 use borrow.Author.Tests.{lt-ltb}
-use Rattle.base.specs.Grow.{listed}
+use Rattle.base.specs.Lists.{listed}
 use Rattle.base.proofs.Grow.{length-listed, listed-at}
 use Rattle.base.proofs.Order.{lt-or-ge}
 use Rattle.base.proofs.Says.{says-and, says-true, denies}
-use Rattle.term.specs.Term.{Kind, plain, public, private, Head, Term, atom, single, isKey, inverse, Part}
+use Rattle.term.specs.Term.{Head, Term, atom, single, isKey, inverse}
 use Rattle.term.specs.Reduce.{op}
 use Rattle.term.specs.Rule.{rules, hasOne}
 use Rattle.term.specs.Step.{Undoes}
 use Rattle.term.proofs.Reduce.{step-op}
 use Rattle.term.proofs.Reach.{Reach, known, reach-iff}
 use Rattle.term.proofs.Guess.{UndoesSome, OutOfReach, FreshGuess, MayHold, clean, tried, Executed, op-may-hold, another-step-differs, at-start-differs, verified-no-key}
-use Rattle.base.specs.Bytes.{Bytes}
-use Rattle.submission.specs.Record.{entries, steps, entryAt, ruleAt, pAt, qAt, conclusionAt, guess, verifying, wayAt, companion, nameAt, term, areInverse, InKnowledge}
+use Rattle.base.specs.Lists.{Bytes}
+use Rattle.submission.specs.{Record.entries, Record.steps, Record.entryAt, Record.ruleAt, Record.pAt, Record.qAt, Record.conclusionAt, Record.guess, Record.verifying, Record.wayAt, Record.companion, Record.nameAt, Record.term, Computed.areInverse, Record.InKnowledge}
 use Rattle.submission.specs.Way.{Way, another-step, at-start, inverse-key, wayOf}
 use Rattle.submission.proofs.theory.ListedTerms.{Claimed, claimed}
-use Rattle.derivation.specs.Register.{written, isKnown}
-use Rattle.derivation.specs.Step.{secondAt}
+use Rattle.derivation.specs.{Register.written, Computed.isKnown}
+use Rattle.submission.specs.Record.{secondAt}
 use Rattle.derivation.proofs.theory.RegisterTerms.{says-known, result-register}
-use Rattle.derivation.proofs.theory.StepMeaning.{SoundStep, sound, founded-iff}
-use Rattle.program.specs.Tests.{relationOf, registersOf, rowOf}
+use Rattle.derivation.proofs.theory.StepMeaning.{founded-iff}
+use Rattle.program.specs.Tests.{relationOf}
 use Rattle.program.specs.Program.{bytesOf, badInstruction, badTest, badProgram}
 use Rattle.machine.specs.Run.{atomKind, guessed, holds as relates, signals, signal}
 use Rattle.program.proofs.theory.Bytes.{byte-count, test-back, program-passes}
 use Rattle.machine.proofs.theory.RunRegisters.{register-entry, register-guess, says-equal, says-inverse}
 use Rattle.conditions.specs.Computed.{hasSecondWay}
-use Rattle.conditions.specs.Condition.{WellFormed, FiveConditions, Differs, SecondWay, UndoesNone, rule, firstPremise, secondPremise, concluded}
-use Rattle.conditions.specs.Page.{lowest, instruction, program, testFor, claimTest}
-use Rattle.conditions.specs.Wrong.{WrongGuess}
+use Rattle.conditions.specs.Condition.{WellFormed, FiveConditions, Differs, SecondWay, UndoesNone}
+use Rattle.derivation.specs.Step.{rule, firstPremise, secondPremise, concluded}
+use Rattle.conditions.specs.Page.{lowest, instruction, program, testFor}
+use Rattle.conditions.specs.Demand.{WrongGuess}
 use Rattle.conditions.proofs.theory.ConditionsMeant.{founded-terms, second-way-iff}
 use Rattle.conditions.proofs.theory.ProgramRun.{lowest-known, program-steps, value, result, same-operand, holds, holds-lowest}
 
@@ -55,7 +56,7 @@ module _ (s : List ℕ) (name : ℕ) where
   asked o = relates (relationOf (testFor s o .letter)) (value s name (steps s) (testFor s o .left)) (value s name (steps s) (testFor s o .right))
 
   signal-asks : signal s name (bytesOf (program s)) ≡ cond (asked (wayOf (wayAt s))) 1 0
-  unfolding signal signals program claimTest
+  unfolding signal signals program
   signal-asks = rw (byte-count (program s), program-steps s, test-back (program s))
 
 module _ (s : List ℕ) (bytes : Bytes s) (w : WellFormed s) (c : FiveConditions s) where
@@ -66,17 +67,14 @@ module _ (s : List ℕ) (bytes : Bytes s) (w : WellFormed s) (c : FiveConditions
   unfolding guessed
   guess-right = claim .guess-term ∙ ap (λ o. atom (atomKind o) (nameAt s (guess s))) (sym (claim .guess-shape))
 
-  shaped : (i : ℕ) → i < steps s → SoundStep s i
-  shaped i l = sound (claim .read) i (w .shaped i l)
-
   -- what is known, by term numbers: the premises of a step, way b's term and way c's inverse
   premises-known : (i : ℕ) → i < steps s → (isKnown s i (pAt s i) ≡ true) × (isKnown s i (secondAt s i) ≡ true)
   premises-known i l =
-      let (p, q) = founded-iff s i .0 (founded-terms claim shaped i l .1 (c .founded i l)) in
+      let (p, q) = founded-iff s i .0 (founded-terms claim (w .shaped) i l .1 (c .founded i l)) in
       (says-known s i (pAt s i) .1 p, says-known s i (secondAt s i) .1 q)
 
   way-found : {o : Option Way} → wayOf (wayAt s) ≡ o → hasSecondWay s o ≡ true
-  way-found e = subst (λ o. hasSecondWay s o ≡ true) e (second-way-iff claim shaped .1 (c .secondWay))
+  way-found e = subst (λ o. hasSecondWay s o ≡ true) e (second-way-iff claim (w .shaped) .1 (c .secondWay))
 
   inverse-known : wayOf (wayAt s) ≡ some inverse-key → isKnown s (steps s) (companion s) ≡ true
   inverse-known e = says-and (areInverse s (conclusionAt s (verifying s)) (companion s)) _ (says-true _) (says-true _) .0 (way-found e) .1
@@ -86,7 +84,7 @@ module _ (s : List ℕ) (bytes : Bytes s) (w : WellFormed s) (c : FiveConditions
   unfolding badInstruction instruction secondAt
   instruction-good i l =
       let (p, q) = premises-known i l in
-      rw (lt-ltb (ruleAt s i) rules (shaped i l .rule-below), lt-ltb (lowest s (pAt s i)) (written s i) (lowest-known s i (pAt s i) (omega arith) p .1))
+      rw (lt-ltb (ruleAt s i) rules (w .shaped i l .rule-below), lt-ltb (lowest s (pAt s i)) (written s i) (lowest-known s i (pAt s i) (omega arith) p .1))
       (go (hasOne (ruleAt s i)) (lowest-known s i (secondAt s i) (omega arith) q .1))
     where
       go : (b : Bool) → lowest s (cond b (pAt s i) (qAt s i)) < written s i → not (cond b (eqb (cond b 0 (lowest s (qAt s i))) 0) (ltb (cond b 0 (lowest s (qAt s i))) (written s i))) ≡ false
@@ -94,28 +92,34 @@ module _ (s : List ℕ) (bytes : Bytes s) (w : WellFormed s) (c : FiveConditions
       go false h = rw (lt-ltb (lowest s (qAt s i)) (written s i) h)
 
   test-good : (o : Option Way) → wayOf (wayAt s) ≡ o → SecondWay s o →
-      (registersOf (relationOf (testFor s o .letter)) ≡ 2) × (testFor s o .left < written s (steps s)) × (testFor s o .right < written s (steps s))
-  unfolding relationOf
+      (testFor s o .left < written s (steps s)) × (testFor s o .right < written s (steps s))
   test-good none e z = absurd z
-  test-good (some another-step) e (l, f, d) = (refl, omega (arith, c .present), omega arith)
-  test-good (some at-start) e z = let (f, b) = lowest-known s 0 _ (omega arith) (way-found e) in (refl, omega (arith, c .present), omega arith)
-  test-good (some inverse-key) e z = (refl, omega (arith, c .present), lowest-known s (steps s) _ (omega arith) (inverse-known e) .1)
+  test-good (some another-step) e (l, f, d) = (omega (arith, c .present), omega arith)
+  test-good (some at-start) e z = let (f, b) = lowest-known s 0 _ (omega arith) (way-found e) in (omega (arith, c .present), omega arith)
+  test-good (some inverse-key) e z = (omega (arith, c .present), lowest-known s (steps s) _ (omega arith) (inverse-known e) .1)
+
+  test-passes : (n : ℕ) (o : Option Way) → SecondWay s o → testFor s o .left < n → testFor s o .right < n → badTest n (testFor s o) ≡ false
+  unfolding badTest relationOf
+  test-passes n none z l r = absurd z
+  test-passes n (some another-step) z l r = rw (lt-ltb _ n l, lt-ltb _ n r)
+  test-passes n (some at-start) z l r = rw (lt-ltb _ n l, lt-ltb _ n r)
+  test-passes n (some inverse-key) z l r = rw (lt-ltb _ n l, lt-ltb _ n r)
 
   pub program-good : badProgram s (bytesOf (program s)) ≡ false
-  unfolding badTest program claimTest
+  unfolding program
   program-good =
-      let (a, l, r) = test-good (wayOf (wayAt s)) refl (c .secondWay) in
+      let (l, r) = test-good (wayOf (wayAt s)) refl (c .secondWay) in
       let e : length (listed (instruction s) (steps s)) ≡ steps s = length-listed (instruction s) (steps s) in
       program-passes (program s) s (instruction s 0) (rw e (claim .read .steps-most))
       (λ i l. let h : i < steps s = rw e at l in ap (badInstruction (written s i)) (listed-at (instruction s) i (steps s) (instruction s 0) h) ∙ instruction-good i h)
-      (rw (e, a, lt-ltb _ (written s (steps s)) l, lt-ltb _ (written s (steps s)) r))
+      (rw e (test-passes (written s (steps s)) (wayOf (wayAt s)) (c .secondWay) l r))
 
   -- ---- the right guess: each register holds its term
   abbrev right : ℕ
   right = nameAt s (guess s)
 
   right-next : (i : ℕ) → i < steps s → (v u : Term) → v ≡ firstPremise s i → u ≡ secondPremise s i → (single (rule s i) ≡ true → v ≡ u) → op (rule s i) v u ≡ concluded s i
-  right-next i l v u e f o = ap₂ (op (rule s i)) e f ∙ step-op (rule s i) (firstPremise s i) (secondPremise s i) (concluded s i) (shaped i l .step) (claim .read .messages (pAt s i) (shaped i l .p-below))
+  right-next i l v u e f o = ap₂ (op (rule s i)) e f ∙ step-op (rule s i) (firstPremise s i) (secondPremise s i) (concluded s i) (w .shaped i l .step) (claim .read .messages (pAt s i) (w .shaped i l .p-below))
 
   right-result : (i : ℕ) → i < steps s → value s right (steps s) (written s i) ≡ concluded s i
   right-result i l =
@@ -163,7 +167,7 @@ module _ (s : List ℕ) (bytes : Bytes s) (w : WellFormed s) (c : FiveConditions
     unfolding guessed
     fresh-guess =
         record {
-          sound = λ h p q t m. rw (m .2, m .3, m .4, m .5) (shaped (m .0) (m .1) .step);
+          sound = λ h p q t m. rw (m .2, m .3, m .4, m .5) (w .shaped (m .0) (m .1) .step);
           messages = λ t k. rw (k .2) (claim .read .messages (entryAt s (k .0)) (claim .read .entry-below (k .0) (k .1)));
           w-atom = (_, name, refl);
           is-fresh = wrong .fresh;

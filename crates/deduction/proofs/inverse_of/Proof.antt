@@ -2,7 +2,7 @@
 use Prim.Native.Nat.{_-_}
 use Rattle.base.proofs.First.{Passed}
 use Rattle.base.proofs.Scan.{scan}
-use Rattle.submission.specs.Record.{areInverse}
+use Rattle.submission.specs.Computed.{areInverse}
 use Rattle.deduction.proofs.InverseTable.{found-at, found-none, found-no-key}
 use Rattle.deduction.proofs.inverse_of.Statement.{statement}
 use Rattle.deduction.proofs.inverse_of.Tie as tie

@@ -16,7 +16,7 @@ use Rattle.term.proofs.Table.{branch-of, node-of, part-below}
 use Rattle.submission.specs.Record.{terms, recordAt, term}
 use Rattle.submission.proofs.theory.ListedTerms.{Listed}
 use Rattle.deduction.specs.Computed.{at, partsBuilt, builtWithin, built}
-use Rattle.deduction.specs.Deduce.{Marked}
+use Rattle.deduction.specs.Computed.{Marked}
 use Rattle.deduction.specs.Code.{SameMarks}
 
 -- ---- parts are earlier, so more levels change nothing

@@ -14,13 +14,13 @@ use Rattle.term.specs.Step.{Deducible}
 use Rattle.term.specs.Code.{Table}
 use Rattle.term.proofs.Table.{tables-agree}
 use Rattle.base.specs.Answer.{done, refused, passes, failsIf, andThen}
-use Rattle.base.specs.Bytes.{Bytes}
+use Rattle.base.specs.Lists.{Bytes}
 use Rattle.submission.specs.Check.{checks1to4}
 use Rattle.submission.specs.Record.{terms, entryAt, recordAt, term, InKnowledge}
 use Rattle.base.proofs.AnswerLaws.{then-passes, if-passes, answered-done}
 use Rattle.submission.proofs.theory.ListedTerms.{Listed, listed}
 use Rattle.deduction.specs.Computed.{entryMarks, isDeducible}
-use Rattle.deduction.specs.Deduce.{Marked, deducibleAnswer, Alike}
+use Rattle.deduction.specs.{Computed.Marked, Deduce.deducibleAnswer, Deduce.Alike}
 use Rattle.deduction.proofs.theory.Exactness.{deducible-from-iff, deducible-trans, deducible-iff}
 
 alike-sym : {s s′ : List ℕ} → Alike s s′ → Alike s′ s

@@ -8,8 +8,8 @@ use Prim.Native.Nat.{ℕ, zero, suc, _<_}
 use lib.Dec.{eqb}
 use lib.ListN.{length}
 use borrow.Author.Tests.{eq-eqb}
-use Rattle.base.specs.First.{any}
-use Rattle.base.specs.Grow.{listed}
+use Rattle.base.specs.Lists.{any}
+use Rattle.base.specs.Lists.{listed}
 use Rattle.base.proofs.Says.{Says, says-eqb, says-and, says-or, says-any, says-true, same-test}
 use Rattle.base.proofs.BoolLaws.{or-left, or-right, and-both}
 use Rattle.base.proofs.Grow.{length-listed, listed-at}
@@ -21,10 +21,10 @@ use Rattle.term.proofs.Reach.{Reach, known, reach-part, reach-opened, reach-rea
 use Rattle.term.proofs.Deducibility.{Built, Analysed, built-reach, built-atom, reach-is-built}
 use Rattle.term.proofs.Table.{branch-of, node-of, part-below}
 use Rattle.term.proofs.Marks.{rounds-keep, rounds-sound, rounds-closed}
-use Rattle.submission.specs.Record.{terms, entries, entryAt, recordAt, areInverse, term, InKnowledge}
+use Rattle.submission.specs.{Record.terms, Record.entries, Record.entryAt, Record.recordAt, Computed.areInverse, Record.term, Record.InKnowledge}
 use Rattle.submission.proofs.theory.ListedTerms.{Listed}
 use Rattle.deduction.specs.Computed.{at, built, opens, gives, taken, round, isEntry, entryMarks, rounds, isDeducible}
-use Rattle.deduction.specs.Deduce.{Marked}
+use Rattle.deduction.specs.Computed.{Marked}
 use Rattle.deduction.specs.Code.{SameMarks}
 use Rattle.deduction.proofs.theory.BuildTestLaws.{same-built, says-built}
 
@@ -32,14 +32,14 @@ use Rattle.deduction.proofs.theory.BuildTestLaws.{same-built, says-buil
 module _ {s : List ℕ} (z : Listed s) (m : List Bool) where
   says-opens : (c : Cipher) (k : ℕ) → k < terms s → Says (opens c s m k) ((j : Term) × Match c (term s k) j × Built (Marked s m) j)
   says-opens symmetric k l = (
-    λ e. (term s k, record { fits = tt; turned = refl }, says-built z m k l .0 e),
-    λ (j, u, x). says-built z m k l .1 (subst (Built (Marked s m)) (u .turned) x),
+    λ e. (term s k, refl, says-built z m k l .0 e),
+    λ (j, u, x). says-built z m k l .1 (subst (Built (Marked s m)) u x),
   )
   says-opens asymmetric k l =
       let w = says-any (λ j. areInverse s k j && built s m j) (terms s) (λ j o. says-and _ _ (z .inverse-iff k j l o) (says-built z m j o)) in (
         λ e. let (j, o, (u, x)) = w .0 e in (term s j, u, x),
         λ (j, u, x).
-            let (n, o, (f, g)) = built-atom (key-is-atom j (match-sym u .fits)) x in
+            let (n, o, (f, g)) = built-atom (key-is-atom j (match-sym asymmetric (term s k) j u .0)) x in
             w .1 (n, o, (subst (Match asymmetric (term s k)) g u, subst (Built (Marked s m)) g x)),
       )
 

@@ -12,8 +12,9 @@ use Rattle.base.proofs.First.{first-some}
 use Rattle.base.proofs.FirstGrowing.{first-kept, any-first, any-more}
 use Rattle.submission.specs.Record.{steps, pAt}
 use Rattle.derivation.specs.declared.Registers.{Registers}
-use Rattle.derivation.specs.Register.{written, lowestAmong, knownAmong, isKnown}
-use Rattle.derivation.specs.Step.{secondAt, unfounded}
+use Rattle.derivation.specs.{Register.written, Register.lowestAmong, Computed.knownAmong, Computed.isKnown}
+use Rattle.submission.specs.Record.{secondAt}
+use Rattle.derivation.specs.Computed.{unfounded}
 use Rattle.derivation.specs.Code.{RegisteredAmong}
 use Rattle.derivation.proofs.RegistersHeld.{held-lowest}
 

@@ -5,12 +5,11 @@ use mathlib.Core.Bool.{Bool, true}
 use mathlib.Core.List.{List}
 use Prim.Native.Nat.{ℕ, _+_, _-_, _<_}
 use native.Mathlib.Omega.{arith}
-use lib.Dec.{eqb}
 use borrow.Author.Tests.{lt-ltb, le-ltb, eq-eqb, ne-eqb}
 use Rattle.base.proofs.Order.{lt-or-ge}
 use Rattle.base.proofs.Says.{Says, says-eqb, says-true, says-and, says-any}
 use Rattle.submission.specs.Record.{entries, entryAt, guess, conclusionAt}
-use Rattle.derivation.specs.Register.{registerTerm, written, holdsTerm, knownAmong, every, isKnown}
+use Rattle.derivation.specs.{Register.registerTerm, Register.written, Register.holdsTerm, Computed.knownAmong, Register.every, Computed.isKnown}
 
 module _ (s : List ℕ) where
   -- ---- the three sorts of registers

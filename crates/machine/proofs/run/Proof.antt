@@ -1,7 +1,7 @@
 -- `run` answers what checks 1 to 5, check 13 and the machine give.
 use Rattle.base.proofs.StageLaws.{bytes}
 use Rattle.machine.proofs.theory.RunAnswer.{read, test-ready, run-stopped, run-refused, run-signals}
-use Rattle.base.proofs.BoolLaws.{flag}
+use Rattle.program.proofs.theory.Check13.{program-good, program-asks}
 use borrow.Author.Needs.{needs}
 use Rattle.machine.proofs.run.Statement.{statement}
 use Rattle.machine.proofs.run.Tie as tie
@@ -24,17 +24,23 @@ answered-by-requires c κs = search needs
 returns : tie.Need-returns
 returns c = search (run-stopped, needs)
 
-is-program-bad-requires : tie.Need-is-program-bad-requires
-is-program-bad-requires c κs = search needs
+check-program-requires : tie.Need-check-program-requires
+check-program-requires c κs = search needs
+
+enum-known-asked : tie.Need-enum-known-asked
+enum-known-asked c = search needs
+
+enum-told-2 : tie.Need-enum-told-2
+enum-told-2 c = search needs
 
 returns-2 : tie.Need-returns-2
 returns-2 c = search (run-refused, needs)
 
 executed-requires : tie.Need-executed-requires
-executed-requires c κs = (search (read, bytes), search flag)
+executed-requires c κs = (search (read, bytes), search program-good)
 
 signal-requires : tie.Need-signal-requires
-signal-requires c κs = search (test-ready, flag)
+signal-requires c κs = (search (test-ready, program-good), search program-asks)
 
 returns-3 : tie.Need-returns-3
 returns-3 c = search (run-signals, needs)
@@ -49,7 +55,9 @@ run-spec =
     stage-of-requires
     answered-by-requires
     returns
-    is-program-bad-requires
+    check-program-requires
+    enum-known-asked
+    enum-told-2
     returns-2
     executed-requires
     signal-requires

@@ -1,5 +1,5 @@
 -- `signal` meets its contract, a law for each relation.
-use Rattle.machine.proofs.theory.RunAnswer.{left-in, right-in, signal-equal, signal-inverse, signal-none}
+use Rattle.machine.proofs.theory.RunAnswer.{left-in, right-in, signal-equal, signal-inverse}
 use borrow.Author.Needs.{needs}
 use Rattle.machine.proofs.signal.Statement.{statement}
 use Rattle.machine.proofs.signal.Tie as tie
@@ -31,9 +31,6 @@ node-at-requires c κs = search left-in
 node-at-requires-2 : tie.Need-node-at-requires-2
 node-at-requires-2 c κs = search right-in
 
-relation-of-requires : tie.Need-relation-of-requires
-relation-of-requires c κs = search needs
-
 enum-told : tie.Need-enum-told
 enum-told c = search needs
 
@@ -49,17 +46,11 @@ are-inverse-requires c κs = search needs
 bit-requires-2 : tie.Need-bit-requires-2
 bit-requires-2 c κs = search needs
 
-enum-told-3 : tie.Need-enum-told-3
-enum-told-3 c = search needs
-
 returns : tie.Need-returns
 returns c = search signal-equal
 
 returns-2 : tie.Need-returns-2
 returns-2 c = search signal-inverse
-
-returns-3 : tie.Need-returns-3
-returns-3 c = search signal-none
 
 pub signal-spec : {M : Type 1} → statement M
 signal-spec =
@@ -74,13 +65,10 @@ signal-spec =
     element-copy-out-b
     node-at-requires
     node-at-requires-2
-    relation-of-requires
     enum-told
     bit-requires
     enum-told-2
     are-inverse-requires
     bit-requires-2
-    enum-told-3
     returns
-    returns-2
-    returns-3)
+    returns-2)

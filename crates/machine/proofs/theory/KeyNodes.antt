@@ -7,7 +7,8 @@ use lib.Dec.{eqb}
 use borrow.Author.Tests.{eq-eqb, eqb-true}
 use Rattle.base.proofs.Says.{Says, says-eqb, says-and, says-or, same-test}
 use Rattle.term.specs.Term as words
-use Rattle.term.specs.Term.{Kind, plain, public, private, otherKind, symmetric, asymmetric, Term, atom, node, inverse, isKey, test, term?, Match}
+use Rattle.term.specs.{Term.Kind, Term.plain, Term.public, Term.private, Term.otherKind, Term.symmetric, Term.asymmetric, Term.Term, Term.atom, Term.node, Term.inverse, Term.isKey, Computed.term?, Term.Match}
+use Rattle.base.specs.Words.{truth}
 use Rattle.term.specs.Computed.{match?}
 use Rattle.term.proofs.Reduce.{says-test}
 use Rattle.term.proofs.Table.{decode-inj}
@@ -23,8 +24,8 @@ cipherOf Symmetric = symmetric
 cipherOf Asymmetric = asymmetric
 
 -- a test that says what was decided is that decision
-decided : {P : Type 0} {b : Bool} (d : Dec P) → Says b P → b ≡ test d
-decided {b = b} d w = same-test b (test d) w (says-test d)
+decided : {P : Type 0} {b : Bool} (d : Dec P) → Says b P → b ≡ truth d
+decided {b = b} d w = same-test b (truth d) w (says-test d)
 
 -- the nodes of keys of one name, one public and one private
 abbrev InverseHeads : Node → Node → Type 0
@@ -37,7 +38,7 @@ says-heads x y =
     says-and _ _ (says-or _ _ (says-and _ _ (says-eqb _ _) (says-eqb _ _)) (says-and _ _ (says-eqb _ _) (says-eqb _ _))) (says-eqb _ _)
 
 module _ {m : Machine} {k j : ℕ} (w : SoundState m) (l : k < m .nodes) (n : j < m .nodes) where
-  pub one-term : eqb k j ≡ test (term? (termAt m j) (termAt m k))
+  pub one-term : eqb k j ≡ truth (term? (termAt m j) (termAt m k))
   one-term = decided (term? _ _) (λ e. sym (ap (termAt m) (eqb-true k j e)), λ u. eq-eqb k j (sym (decode-inj (w .table) j k n l u)))
 
   -- a key's node, and its inverse's
@@ -45,7 +46,7 @@ module _ {m : Machine} {k j : ℕ} (w : SoundState m) (l : k < m .nodes) (n : j 
       nodeIn m k .left ≡ nodeIn m j .left → Match asymmetric (termAt m k) (termAt m j)
   of-kind κ i a b q =
       let t = atom-term w l κ a in
-      record { fits = subst isKey (sym t) (named κ (nodeIn m k .left) i); turned = atom-term w n (otherKind κ) b ∙ ap (atom (otherKind κ)) (sym q) ∙ sym (ap inverse t) }
+      (subst isKey (sym t) (named κ (nodeIn m k .left) i), atom-term w n (otherKind κ) b ∙ ap (atom (otherKind κ)) (sym q) ∙ sym (ap inverse t))
     where
       named : (κ : Kind) (x : ℕ) → isKey (atom κ 0) → isKey (atom κ x)
       named plain x i = i
@@ -62,14 +63,14 @@ module _ {m : Machine} {k j : ℕ} (w : SoundState m) (l : k < m .nodes) (n : j 
   says-inverse =
       let s = says-heads (nodeIn m k) (nodeIn m j) in (
         λ e. let u = s .0 e in ⊎-elim (λ v. of-kind public tt (v .0) (v .1) (u .1)) (λ v. of-kind private tt (v .0) (v .1) (u .1)) (u .0),
-        λ u. s .1 (heads-of (termAt m k) refl (u .fits) (u .turned)),
+        λ u. s .1 (heads-of (termAt m k) refl (u .0) (u .1)),
       )
 
-  pub inverse-keys : {x y : Node} → x ≡ nodeIn m k → y ≡ nodeIn m j → inverseNodes x y ≡ test (match? asymmetric (termAt m k) (termAt m j))
+  pub inverse-keys : {x y : Node} → x ≡ nodeIn m k → y ≡ nodeIn m j → inverseNodes x y ≡ truth (match? asymmetric (termAt m k) (termAt m j))
   inverse-keys e g = rw (e, g) (decided (match? asymmetric _ _) says-inverse)
 
-  pub keys-match : (c : Cipher) {x y : Node} → x ≡ nodeIn m k → y ≡ nodeIn m j → matchNodes c k j x y ≡ test (match? (cipherOf c) (termAt m k) (termAt m j))
-  keys-match Symmetric e g = decided (match? symmetric _ _) (λ e. record { fits = tt; turned = sym (ap (termAt m) (eqb-true k j e)) }, λ u. eq-eqb k j (sym (decode-inj (w .table) j k n l (u .turned))))
+  pub keys-match : (c : Cipher) {x y : Node} → x ≡ nodeIn m k → y ≡ nodeIn m j → matchNodes c k j x y ≡ truth (match? (cipherOf c) (termAt m k) (termAt m j))
+  keys-match Symmetric e g = decided (match? symmetric _ _) (λ e. sym (ap (termAt m) (eqb-true k j e)), λ u. eq-eqb k j (sym (decode-inj (w .table) j k n l u)))
   keys-match Asymmetric e g = inverse-keys e g
 
 -- the test of the code, by its operation

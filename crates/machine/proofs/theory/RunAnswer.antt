@@ -1,14 +1,14 @@
 -- A run: the instructions of a program that passes check 13, its test, and the answer.
-use mathlib.Core.Path.{_≡_, refl, sym, ap, ap₂, _∙_}
-use mathlib.Core.Bool.{Bool, true, false, cond}
-use mathlib.Core.Option.{Option, none, some}
+use mathlib.Core.Path.{_≡_, sym, ap, ap₂, _∙_}
+use mathlib.Core.Bool.{Bool, false, cond}
+use mathlib.Core.Option.{Option, some}
 use mathlib.Core.List.{List, [], _∷_, _++_}
 use Prim.Native.Nat.{ℕ, _+_, _≤_, _<_}
 use native.Mathlib.Numerals.{add-one}
 use native.Mathlib.Omega.{arith}
 use lib.Dec.{eqb}
 use lib.ListN.{getD}
-use Rattle.base.specs.Grow.{grow}
+use Rattle.base.specs.Lists.{grow}
 use Rattle.base.specs.declared.Stage.{Stage}
 use Rattle.submission.specs.declared.Claim.{Claim}
 use Rattle.submission.specs.declared.Reading.{Reading}
@@ -16,8 +16,7 @@ use Rattle.submission.specs.declared.Reading.the-variants.{Refused}
 use Rattle.submission.specs.declared.Reading.the-variants as reading
 use Rattle.submission.specs.Code.{readingCheck, ReadingIs}
 use Rattle.base.specs.Answer.{done, refused, passes, answered}
-use Rattle.base.specs.Bytes.{Bytes, byte}
-use Rattle.submission.specs.Record.{entries}
+use Rattle.base.specs.Lists.{Bytes, byte}
 use Rattle.submission.specs.Check.{checks1to5}
 use Rattle.base.specs.Code.{checkOf}
 use Rattle.base.specs.Calls.{answerOf}
@@ -25,12 +24,15 @@ use Rattle.machine.specs.declared.Node.{Node}
 use Rattle.machine.specs.declared.Machine.{Machine}
 use Rattle.base.specs.declared.Answer.{Answer}
 use Rattle.program.specs.declared.Asked.{Asked}
-use Rattle.program.specs.declared.Asked.the-variants.{Equal, Inverse, Unknown}
-use Rattle.term.specs.Relation.{Relation, equal, inverse}
+use Rattle.program.specs.declared.Asked.the-variants.{Asks, Nothing}
+use Rattle.term.specs.declared.Relation.{Relation as RelationGiven}
+use Rattle.term.specs.declared.Relation.the-variants.{Equal, Inverse}
+use Rattle.term.specs.Code.{relationIs}
+use Rattle.term.specs.Term.{Relation, equal, inverses}
 use Rattle.program.specs.Tests.{relationOf}
 use Rattle.program.specs.Program.{Instruction, Test, instructionAt, testAt, badProgram}
-use Rattle.program.specs.Code.{relationIn}
-use Rattle.program.proofs.theory.Check13.{good, good-instruction, good-test}
+use Rattle.program.specs.Code.{relationIn, asked}
+use Rattle.program.proofs.theory.Check13.{good, good-instruction, good-test, program-good, program-bad}
 use Rattle.machine.specs.Run.{executed, registers, holds, signals, signal, runAnswer}
 use Rattle.machine.specs.Code.{nodeIn, inverseNodes, termAt, register, values, Gives, Executable, SubmissionRead, Started, Running, Testable}
 use Rattle.machine.proofs.theory.InstructionResult.{value-at}
@@ -92,22 +94,22 @@ module _ (P : List ℕ) {m : Machine} {u : Test} {p q : ℕ} (w : Testable m (te
       let t : signals (values m) (testAt P) ≡ b = cc (value-at m _ (w .left), value-at m _ (w .right)) in
       k ∙ rw t
 
-  module _ {l : Asked} (j : relationIn l ≡ relationOf (u .letter)) where
+  module _ {l : RelationGiven} (j : relationOf (testAt P .letter) ≡ some (relationIs l)) where
+    asks : {v : RelationGiven} → l ≡ v → relationOf (u .letter) ≡ some (relationIs v)
+    asks k = rw z (j ∙ ap (λ v. some (relationIs v)) k)
+
     pub signal-equal : {r : ℕ} → l ≡ Equal → r ≡ cond (eqb (getD (m .registers) p 0) (getD (m .registers) q 0)) 1 0 → r ≡ cond (signals (values m) (testAt P)) 1 0
-    signal-equal k = tested (some equal) (sym j ∙ ap relationIn k) (one-term (w .sound) left-below right-below)
+    signal-equal k = tested (some equal) (asks k) (one-term (w .sound) left-below right-below)
 
     pub signal-inverse : {b : Bool} {r : ℕ} {x y : Node} → l ≡ Inverse → x ≡ nodeIn m (getD (m .registers) p 0) → y ≡ nodeIn m (getD (m .registers) q 0) → b ≡ inverseNodes x y → r ≡ cond b 1 0 →
         r ≡ cond (signals (values m) (testAt P)) 1 0
-    signal-inverse k a c v = tested (some inverse) (sym j ∙ ap relationIn k) (v ∙ inverse-keys (w .sound) left-below right-below a c)
-
-    pub signal-none : l ≡ Unknown → _≡_ {A = ℕ} 0 (cond (signals (values m) (testAt P)) 1 0)
-    signal-none k = tested none (sym j ∙ ap relationIn k) refl refl
+    signal-inverse k a c v = tested (some inverses) (asks k) (v ∙ inverse-keys (w .sound) left-below right-below a c)
 
 -- ---- the answer
 pub test-ready : (s P : List ℕ) {name : ℕ} {m : Machine} → badProgram s P ≡ false → Running s name P (byte P 0) m → Testable m (testAt P)
 test-ready s P g h =
     let z = good s P g in
-    let (a, b) = good-test _ _ (z .test) in
+    let (r, o, a, b) = good-test _ _ (z .test) in
     record { sound = h .holds .sound; left = rw (h .used) a; right = rw (h .used) b; room = omega (arith, h .few, z .few) }
 
 module _ (s P : List ℕ) (name : ℕ) {rd : Reading} (e : ReadingIs s (checks1to5 s) rd) where
@@ -123,11 +125,11 @@ module _ (s P : List ℕ) (name : ℕ) {rd : Reading} (e : ReadingIs s (checks1t
     pub read : Bytes s → SubmissionRead s
     read b = record { bytes = b; passed = reading-passes }
 
-    module _ {b : Bool} (g : b ≡ badProgram s P) where
-      pub run-refused : b ≡ true → refused 13 0 ≡ runAnswer s name P
+    module _ {o : Asked} (g : relationIn o ≡ asked s P) where
+      pub run-refused : o ≡ Nothing → refused 13 0 ≡ runAnswer s name P
       unfolding runAnswer
-      run-refused t = rw (reading-passes, ← g, t)
+      run-refused t = rw (reading-passes, program-bad s P g t)
 
-      pub run-signals : {m : Machine} {r : ℕ} → b ≡ false → Running s name P (byte P 0) m → r ≡ cond (signals (values m) (testAt P)) 1 0 → done r ≡ runAnswer s name P
+      pub run-signals : {l : RelationGiven} {m : Machine} {r : ℕ} → o ≡ Asks l → Running s name P (byte P 0) m → r ≡ cond (signals (values m) (testAt P)) 1 0 → done r ≡ runAnswer s name P
       unfolding runAnswer signal
-      run-signals t h k = rw (reading-passes, ← g, t, k, h .holds .is)
+      run-signals t h k = rw (reading-passes, program-good s P g t, k, h .holds .is)

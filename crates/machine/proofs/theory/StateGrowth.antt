@@ -1,7 +1,7 @@
 -- A state with one node or one register more: what it holds.
 use mathlib.Core.Path.{_≡_, refl, sym, ap, ap₂, _∙_, subst}
 use mathlib.Core.Bool.{Bool, true, false, true≢false}
-use mathlib.Core.List.{List, [], _∷_, _++_}
+use mathlib.Core.List.{[], _∷_, _++_}
 use Prim.Native.Nat.{ℕ, _+_, _<_}
 use native.Mathlib.Nat.{zero-add}
 use native.Mathlib.Numerals.{add-one}
@@ -10,7 +10,7 @@ use lib.ListN.{length, getD, set, List·getD-append}
 use lib.Seq.{getD-set-same, getD-set-other, getD-at}
 use borrow.Author.Count.{below-more}
 use borrow.Author.Tests.{eq-eqb}
-use Rattle.base.specs.Grow.{grow}
+use Rattle.base.specs.Lists.{grow}
 use Rattle.base.proofs.Grow.{length-grow, grow-alike}
 use Rattle.term.specs.Table.{Rec, message, void, decoded}
 use Rattle.term.specs.Code.{Below, Table}

@@ -1,23 +1,28 @@
 -- Check 13, one test at a time: what makes an instruction, a test or a program bad.
-use mathlib.Core.Path.{_≡_, sym, ap, _∙_}
-use mathlib.Core.Bool.{Bool, true, false, not, cond, or-true}
-use mathlib.Core.Option.{Option}
+use mathlib.Core.Path.{_≡_, refl, sym, ap, _∙_}
+use mathlib.Core.Bool.{Bool, true, false, not, cond, or-true, true≢false}
+use mathlib.Core.Option.{Option, none, some}
 use mathlib.Core.List.{List}
 use Prim.Native.Nat.{ℕ, _+_, _*_, _≤_, _<_}
 use lib.Dec.{eqb, ltb}
 use lib.ListN.{length}
 use native.Mathlib.Omega.{arith}
 use borrow.Author.Tests.{eq-eqb, ne-eqb, lt-ltb, le-ltb, eqb-true, ltb-true, ltb-false}
-use Rattle.base.specs.First.{any}
+use Rattle.base.specs.Lists.{any}
 use Rattle.base.proofs.First.{Passed}
 use Rattle.base.proofs.Scan.{true-any, false-any}
 use Rattle.base.proofs.Says.{says-true, says-ltb, says-and, says-any, denies, not-not-false, or-false}
 use Rattle.term.specs.Rule.{rules, isRule, hasOne}
-use Rattle.base.specs.Bytes.{byte}
+use Rattle.base.specs.Lists.{byte}
 use Rattle.submission.specs.Record.{entries}
-use Rattle.term.specs.Relation.{Relation}
-use Rattle.program.specs.Tests.{relationOf, registersOf, isTest}
-use Rattle.program.specs.Program.{Instruction, Test, programLength, instructionAt, testAt, operand, goodRegisters, badInstruction, badTest, badProgram}
+use Rattle.term.specs.Term.{Relation}
+use Rattle.term.specs.Code.{relationIs}
+use Rattle.term.specs.declared.Relation.{Relation as RelationGiven}
+use Rattle.program.specs.declared.Asked.{Asked}
+use Rattle.program.specs.declared.Asked.the-variants.{Asks, Nothing}
+use Rattle.program.specs.Code.{relationIn, asked}
+use Rattle.program.specs.Tests.{rowOf, relationOf}
+use Rattle.program.specs.Program.{Instruction, Test, programLength, instructionAt, testAt, operand, goodRegisters, badInstruction, badFor, badTest, badProgram}
 
 -- ---- registers, where n are written
 module _ {n x a : ℕ} (b : ℕ) (one : Bool) (e : x ≡ a) where
@@ -40,16 +45,14 @@ module _ (n : ℕ) (i : Instruction) where
   unfolding badInstruction
   bad-operands e t f g = rw (g, ← e, t, f)
 
-module _ (n : ℕ) (t : Test) {o : Option Relation} {k : ℕ} (e : o ≡ relationOf (t .letter)) (f : k ≡ registersOf o) where
-  pub bad-letter : k ≡ 0 → true ≡ badTest n t
+module _ (n : ℕ) (t : Test) {o : Asked} (e : relationIn o ≡ relationOf (t .letter)) where
+  pub bad-letter : o ≡ Nothing → true ≡ badTest n t
   unfolding badTest
-  bad-letter h = let z : registersOf (relationOf (t .letter)) ≡ 0 = ap registersOf (sym e) ∙ sym f ∙ h in rw z
+  bad-letter h = let z : relationOf (t .letter) ≡ none = sym e ∙ ap relationIn h in rw z
 
-  pub bad-registers : {r : Bool} → (k ≡ 0 → ⊥) → r ≡ goodRegisters n (eqb k 1) (t .left) (t .right) → not r ≡ badTest n t
+  pub bad-registers : {x : RelationGiven} {k : ℕ} {r : Bool} → o ≡ Asks x → k ≡ rowOf (relationIs x) .registers → r ≡ goodRegisters n (eqb k 1) (t .left) (t .right) → not r ≡ badTest n t
   unfolding badTest
-  bad-registers h g =
-      let z : registersOf (relationOf (t .letter)) ≡ k = ap registersOf (sym e) ∙ sym f in
-      rw (g, z, lt-ltb 0 k (omega arith))
+  bad-registers h f g = let z = sym e ∙ ap relationIn h in rw (g, z, f)
 
 -- ---- the instructions of the program P, where k registers hold the knowledge
 abbrev pub badAt : ℕ → List ℕ → ℕ → Bool
@@ -114,12 +117,14 @@ good-instruction n i e =
     go true l r = l
     go false l r = r
 
-pub good-test : (n : ℕ) (t : Test) → badTest n t ≡ false → (t .left < n) × (t .right < n)
+-- a good test asks for a relation, and names registers that are written
+pub good-test : (n : ℕ) (t : Test) → badTest n t ≡ false → (r : Relation) × (relationOf (t .letter) ≡ some r) × (t .left < n) × (t .right < n)
 unfolding badTest
-good-test n t e =
-    let one = eqb (registersOf (relationOf (t .letter))) 1 in
-    let u = says-and _ _ (says-true (isTest (relationOf (t .letter)))) (says-true (goodRegisters n one (t .left) (t .right))) .0 (not-not-false _ .0 e) in
-    good-registers n one (t .left) (t .right) (u .1)
+good-test n t e = go (relationOf (t .letter)) refl e
+  where
+    go : (o : Option Relation) → relationOf (t .letter) ≡ o → badFor n t o ≡ false → (r : Relation) × (relationOf (t .letter) ≡ some r) × (t .left < n) × (t .right < n)
+    go none f e = absurd (true≢false e)
+    go (some r) f e = let (a, b) = good-registers n (eqb (rowOf r .registers) 1) (t .left) (t .right) (not-not-false _ .0 e) in (r, f, a, b)
 
 pub record Good (s P : List ℕ) : Type 0 where
   pub few : byte P 0 ≤ 128
@@ -137,3 +142,32 @@ good s P e =
   where
     none-any : (p : ℕ → Bool) (n : ℕ) → any p n ≡ false → (i : ℕ) → i < n → p i ≡ false
     none-any p n f i l = denies (p i) (says-true (p i)) .1 (λ t. denies _ (says-any p n (λ k _. says-true (p k))) .0 f (i, l, t))
+
+-- ---- what check 13 answers
+module _ (s P : List ℕ) {b : Bool} (e : b ≡ badProgram s P) where
+  pub nothing-asked : b ≡ true → none ≡ asked s P
+  nothing-asked t = rw (← e, t)
+
+  pub relation-asked : (o : Asked) {t : Test} → b ≡ false → t ≡ testAt P → relationIn o ≡ relationOf (t .letter) → relationIn o ≡ asked s P
+  relation-asked o h g f = f ∙ rw (← e, h, g)
+
+module _ (s P : List ℕ) {o : Asked} (e : relationIn o ≡ asked s P) where
+  by-case : (b : Bool) → badProgram s P ≡ b → (o ≡ Nothing → badProgram s P ≡ true) ×
+      ((x : RelationGiven) → o ≡ Asks x → (badProgram s P ≡ false) × (relationOf (testAt P .letter) ≡ some (relationIs x)))
+  by-case true f = (λ h. f, λ x h. let z : none ≡ some (relationIs x) = rw f at (sym e ∙ ap relationIn h) in absurd (let o : _≡_ {A = ℕ} 0 1 = cc in omega arith))
+  by-case false f = (
+    λ h.
+        let (r, g, a, b) = good-test _ _ (good s P f .test) in
+        let z : relationOf (testAt P .letter) ≡ none = rw f at (sym e ∙ ap relationIn h) in
+        absurd (let o : _≡_ {A = ℕ} 0 1 = cc in omega arith),
+    λ x h. (f, rw f at (sym e ∙ ap relationIn h)),
+  )
+
+  pub program-bad : o ≡ Nothing → badProgram s P ≡ true
+  program-bad = by-case (badProgram s P) refl .0
+
+  pub program-good : {x : RelationGiven} → o ≡ Asks x → badProgram s P ≡ false
+  program-good h = by-case (badProgram s P) refl .1 _ h .0
+
+  pub program-asks : {x : RelationGiven} → o ≡ Asks x → relationOf (testAt P .letter) ≡ some (relationIs x)
+  program-asks h = by-case (badProgram s P) refl .1 _ h .1

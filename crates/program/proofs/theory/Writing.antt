@@ -7,13 +7,13 @@ use native.Mathlib.Omega.{arith}
 use lib.ListN.{length, set, drop}
 use lib.Seq.{sets, length-sets}
 use borrow.Rule.Slice.PartMut.{midOf, putMid}
-use Rattle.base.specs.Grow.{grow, listed}
+use Rattle.base.specs.Lists.{grow, listed}
 use Rattle.base.proofs.Grow.{length-listed}
 use Rattle.base.proofs.Overwrite.{overwrite}
 use Rattle.base.proofs.Parts.{rest-lent, rest-back}
 use Rattle.program.specs.declared.Program.{Program as ProgramRead}
-use Rattle.program.specs.Program.{Instruction, Test, instructionBytes, bytesOf, programLength}
-use Rattle.program.specs.Code.{heldAt, programIn, testIn}
+use Rattle.program.specs.Program.{Instruction, instructionBytes, bytesOf, programLength}
+use Rattle.program.specs.Code.{heldAt, programIn}
 use Rattle.program.proofs.theory.Bytes.{bytes-length, bytes-append}
 
 -- three stores in a row

@@ -1,11 +1,11 @@
 -- The test of freshness says that neither the atom nor its inverse is part of the knowledge.
-use mathlib.Core.Path.{_≡_, refl, subst}
-use mathlib.Core.Logic.{_↔_, Iff·trans}
+use mathlib.Core.Path.{refl, subst}
+use mathlib.Core.Logic.{Iff·trans}
 use mathlib.Core.List.{List}
-use Prim.Native.Nat.{ℕ, _<_}
+use Prim.Native.Nat.{ℕ}
 use Rattle.base.proofs.Says.{Says, says-and, says-not, says-any}
 use Rattle.term.specs.Term.{Term, inverse, Part}
-use Rattle.term.specs.Fresh.{Fresh}
+use Rattle.term.specs.Term.{Fresh}
 use Rattle.term.specs.Computed.{isPart}
 use Rattle.term.proofs.FreshLaws.{says-part}
 use Rattle.submission.specs.Record.{entries, entryAt, term, InKnowledge}

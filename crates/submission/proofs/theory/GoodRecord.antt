@@ -7,7 +7,7 @@ use Prim.Native.Nat.{ℕ, _+_, _*_, _<_}
 use native.Mathlib.Omega.{arith}
 use lib.Dec.{eqb, ltb}
 use Rattle.base.proofs.Says.{Says, says-true, says-eqb, says-ltb, says-and, says-any, denies, not-not-false, or-false}
-use Rattle.term.specs.Term.{Form, Second, absent, anything, keyFor, second, isAbsent, unary, Shape, atomic, compound, isKeyFor, takes}
+use Rattle.term.specs.Term.{Form, Second, absent, anything, keyFor, second, unary, Shape, atomic, compound, isKeyFor, takes}
 use Rattle.term.specs.Kind.{shapeOf}
 use Rattle.submission.specs.Record.{kindAt, xAt, yAt, nameAt, recordOf}
 use Rattle.submission.specs.Check.{shapeFits, sameRecord, badTerm}
@@ -23,7 +23,7 @@ abbrev pub Shaped : List ℕ → ℕ → Shape → Type 0
 Shaped s i (atomic κ) = Unit {0}
 Shaped s i (compound f) = (xAt s i < i) × HasSecond s i (second f)
 
-says-second : (s : List ℕ) (i : ℕ) (o : Second) → Says (cond (isAbsent o) (eqb (yAt s i) 0) (ltb (yAt s i) i && takes o (shapeOf (kindAt s (yAt s i))))) (HasSecond s i o)
+says-second : (s : List ℕ) (i : ℕ) (o : Second) → Says (cond (unary o) (eqb (yAt s i) 0) (ltb (yAt s i) i && takes o (shapeOf (kindAt s (yAt s i))))) (HasSecond s i o)
 says-second s i absent = says-eqb _ _
 says-second s i anything = let w = says-and _ true (says-ltb (yAt s i) i) (says-true true) in (λ e. w .0 e .0, λ l. w .1 (l, refl))
 says-second s i (keyFor c) = says-and _ _ (says-ltb _ _) (says-true _)
@@ -35,9 +35,9 @@ shaped s i (some (compound f)) e = (compound f, refl, says-and _ _ (says-ltb _ _
 
 -- the second part of a record: y, or x again
 abbrev pub secondPart : List ℕ → ℕ → Form → ℕ
-secondPart s i f = cond (unary f) (xAt s i) (yAt s i)
+secondPart s i f = cond (unary (second f)) (xAt s i) (yAt s i)
 
-pub second-below : (s : List ℕ) (i : ℕ) (o : Second) → xAt s i < i → HasSecond s i o → cond (isAbsent o) (xAt s i) (yAt s i) < i
+pub second-below : (s : List ℕ) (i : ℕ) (o : Second) → xAt s i < i → HasSecond s i o → cond (unary o) (xAt s i) (yAt s i) < i
 second-below s i absent l f = l
 second-below s i anything l f = f
 second-below s i (keyFor c) l f = f .0
@@ -65,7 +65,7 @@ pub name-bytes : {x y x′ y′ : ℕ} → x < 256 → y < 256 → x′ < 256 �
 name-bytes a b c d e = omega arith
 
 pub same-second : (s : List ℕ) (i j : ℕ) (o : Second) → HasSecond s i o → HasSecond s j o →
-    cond (isAbsent o) (xAt s i) (yAt s i) ≡ cond (isAbsent o) (xAt s j) (yAt s j) → yAt s i ≡ yAt s j
+    cond (unary o) (xAt s i) (yAt s i) ≡ cond (unary o) (xAt s j) (yAt s j) → yAt s i ≡ yAt s j
 same-second s i j absent f g e = f ∙ sym g
 same-second s i j anything f g e = e
 same-second s i j (keyFor c) f g e = e
@@ -78,5 +78,5 @@ same-record s i j (atomic κ) (compound h) f g n e = absurd (let o : _≡_ {A = 
 same-record s i j (compound h) (atomic κ) f g n e = absurd (let o : _≡_ {A = ℕ} 0 1 = cc in omega arith)
 same-record s i j (compound h) (compound k) f g n e =
     let p : k ≡ h = cc in
-    let q : cond (unary h) (xAt s i) (yAt s i) ≡ cond (unary k) (xAt s j) (yAt s j) = cc in
-    (cc, cc, same-second s i j (second h) (f .1) (subst (λ z. HasSecond s j (second z)) p (g .1)) (q ∙ ap (λ z. cond (unary z) (xAt s j) (yAt s j)) p))
+    let q : cond (unary (second h)) (xAt s i) (yAt s i) ≡ cond (unary (second k)) (xAt s j) (yAt s j) = cc in
+    (cc, cc, same-second s i j (second h) (f .1) (subst (λ z. HasSecond s j (second z)) p (g .1)) (q ∙ ap (λ z. cond (unary (second z)) (xAt s j) (yAt s j)) p))

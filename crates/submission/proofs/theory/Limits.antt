@@ -2,9 +2,9 @@
 use mathlib.Core.Path.{_≡_, refl}
 use mathlib.Core.List.{List, [], _∷_, map}
 use Prim.Native.Nat.{ℕ}
-use Rattle.base.specs.First.{first, firstFrom}
-use Rattle.base.specs.Answer.{Check, passes, fails}
-use Rattle.submission.specs.Contents.{check2}
+use Rattle.base.specs.Lists.{first, firstFrom}
+use Rattle.base.specs.Answer.{Check, passes, fails, failsAt}
+use Rattle.submission.specs.Contents.{badCount}
 
 -- the four counts, in the contents' places, and what check 2 says
 pub record Limit : Type 0 where
@@ -30,6 +30,6 @@ limits =
     ∷ limit 250 64 128 2 (fails 2 3)
     ∷ []
 
-pub limits-right : map (λ l. check2 (l .counts)) limits ≡ map (λ l. l .wanted) limits
+pub limits-right : map (λ l. failsAt 2 (first (badCount (l .counts)) 4)) limits ≡ map (λ l. l .wanted) limits
 unfolding first firstFrom
 limits-right = refl

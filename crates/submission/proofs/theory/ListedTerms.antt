@@ -2,7 +2,7 @@
 -- Its records are a table: its term numbers stand for its terms, one for one.
 use mathlib.Core.Path.{_≡_, refl, sym, ap, ap₂, _∙_, subst}
 use mathlib.Core.Logic.{_↔_, ⊎-elim}
-use mathlib.Core.Bool.{true, false, _||_, cond, false≢true}
+use mathlib.Core.Bool.{true, false, _||_, cond, false≢true, not}
 use mathlib.Core.List.{List}
 use mathlib.Core.Option.{Option, none, some}
 use Prim.Native.Nat.{ℕ, zero, suc, _+_, _*_, _<_, _≤_}
@@ -11,19 +11,19 @@ use lib.Dec.{ltb}
 use borrow.Author.Tests.{ltb-false}
 use Rattle.base.proofs.Order.{lt-or-ge}
 use Rattle.base.proofs.Says.{Says, says-true, says-eqb, says-ltb, says-and, says-or, not-not-false, or-false, none-fails}
-use Rattle.term.specs.Term.{Kind, plain, public, private, otherKind, asymmetric, Form, Second, absent, anything, keyFor, second, isAbsent, make, Term, atom, node, isKey, inverse, Match, Shape, atomic, compound, shape, isAtomic, isKeyFor, OperandsAs}
+use Rattle.term.specs.Term.{Kind, plain, public, private, otherKind, asymmetric, Form, Second, absent, anything, keyFor, second, unary, make, Term, atom, node, isKey, inverse, Match, Shape, atomic, compound, shape, isAtomic, isKeyFor, Operands}
 use Rattle.term.specs.Code.{Message}
-use Rattle.term.specs.Kind.{shapeOf, kindOf, inverseKinds}
+use Rattle.term.specs.{Kind.shapeOf, Computed.kindOf, Computed.inverseKinds}
 use Rattle.term.proofs.Kind.{kind-shape, shape-kind}
 use Rattle.term.specs.Table.{branch, message}
 use Rattle.term.specs.Code.{Below, Table}
 use Rattle.term.proofs.Table.{decode-inj, decoded-reads}
-use Rattle.base.specs.Answer.{passes}
-use Rattle.base.specs.Bytes.{Bytes}
-use Rattle.submission.specs.Contents.{badCount, check1, check2}
-use Rattle.submission.specs.Record.{terms, entries, steps, kindAt, xAt, yAt, nameAt, entryAt, guess, verifying, wayAt, companion, recordOf, recordAt, term, areInverse}
+use Rattle.base.specs.Answer.{passes, failsIf, failsAt}
+use Rattle.base.specs.Lists.{Bytes, first}
+use Rattle.submission.specs.Contents.{badCount, badContents}
+use Rattle.submission.specs.{Record.terms, Record.entries, Record.steps, Record.kindAt, Record.xAt, Record.yAt, Record.nameAt, Record.entryAt, Record.guess, Record.verifying, Record.wayAt, Record.companion, Record.recordOf, Record.recordAt, Record.term, Computed.areInverse}
 use Rattle.submission.specs.Way.{Way, another-step, at-start, inverse-key, wayOf, Range, step-number, term-number, zero-only, row, inRange, claimFits}
-use Rattle.submission.specs.Check.{badTerm, check3, badKnowledge, check4, goodClaim, check5, checks1to4, checks1to5}
+use Rattle.submission.specs.Check.{badTerm, badKnowledge, goodClaim, checks1to4, checks1to5}
 use Rattle.base.proofs.AnswerLaws.{if-passes, at-passes, then-passes}
 use Rattle.submission.proofs.theory.GoodRecord.{HasSecond, Shaped, secondPart, second-below, Good, good, name-bytes, same-record}
 
@@ -108,7 +108,7 @@ module _ (s : List ℕ) (bytes : Bytes s) (all : (i : ℕ) → i < terms s → G
       go (atomic κ) h = ap shape (term-at i (atomic κ) l h) ∙ sym h
       go (compound f) h = ap shape (term-at i (compound f) l h) ∙ sym h
 
-  operands : (i : ℕ) (o : Second) → i < terms s → HasSecond s i o → OperandsAs o (term s (xAt s i)) (term s (cond (isAbsent o) (xAt s i) (yAt s i)))
+  operands : (i : ℕ) (o : Second) → i < terms s → HasSecond s i o → Operands o (term s (xAt s i)) (term s (cond (unary o) (xAt s i) (yAt s i)))
   operands i absent l f = refl
   operands i anything l f = tt
   operands i (keyFor c) l f = ap (isKeyFor c) (shape-of (yAt s i) (let g = f .0 in omega arith)) ∙ f .1
@@ -130,7 +130,7 @@ module _ (s : List ℕ) (bytes : Bytes s) (all : (i : ℕ) → i < terms s → G
   kinds-inverse i j κ l m k e f n =
       let p = term-of-kind i (atomic κ) l e in
       let q = term-of-kind j (atomic (otherKind κ)) m f in
-      record { fits = subst isKey (sym p) (key-named κ k (nameAt s i)); turned = q ∙ ap (atom (otherKind κ)) (sym n) ∙ sym (ap inverse p) }
+      (subst isKey (sym p) (key-named κ k (nameAt s i)), q ∙ ap (atom (otherKind κ)) (sym n) ∙ sym (ap inverse p))
 
   inverse-kinds : (i j : ℕ) → i < terms s → j < terms s → Match asymmetric (term s i) (term s j) →
       KindPair (kindAt s i) (kindAt s j) × (nameAt s i ≡ nameAt s j)
@@ -139,9 +139,9 @@ module _ (s : List ℕ) (bytes : Bytes s) (all : (i : ℕ) → i < terms s → G
       go : (z : Shape) → shapeOf (kindAt s i) ≡ some z → KindPair (kindAt s i) (kindAt s j) × (nameAt s i ≡ nameAt s j)
       go (atomic κ) h =
           let p = term-at i (atomic κ) l h in
-          let (f, n) = atom-of j (otherKind κ) (nameAt s i) m (u .turned ∙ ap inverse p) in
-          ((κ, named-key κ (nameAt s i) (subst isKey p (u .fits)), shape-kind _ _ h, f), sym n)
-      go (compound o) h = absurd (subst isKey (term-at i (compound o) l h) (u .fits))
+          let (f, n) = atom-of j (otherKind κ) (nameAt s i) m (u .1 ∙ ap inverse p) in
+          ((κ, named-key κ (nameAt s i) (subst isKey p (u .0)), shape-kind _ _ h, f), sym n)
+      go (compound o) h = absurd (subst isKey (term-at i (compound o) l h) (u .0))
 
   says-inverse : (i j : ℕ) → i < terms s → j < terms s → Says (areInverse s i j) (Match asymmetric (term s i) (term s j))
   unfolding areInverse
@@ -171,9 +171,9 @@ within a b c e = let u = or-false _ _ .0 e in (ltb-false b a (u .0), ltb-false c
 pub listed : (s : List ℕ) → Bytes s → checks1to4 s ≡ passes → Listed s
 unfolding checks1to4 badKnowledge
 listed s b e =
-    let (e1, r) = then-passes (check1 s) _ .0 e in
-    let (e2, r) = then-passes (check2 s) _ .0 r in
-    let (e3, e4) = then-passes (check3 s) (check4 s) .0 r in
+    let (e1, r) = then-passes (failsIf (badContents s) 1 0) _ .0 e in
+    let (e2, r) = then-passes (failsAt 2 (first (badCount s) 4)) _ .0 r in
+    let (e3, e4) = then-passes (failsAt 3 (first (badTerm s) (terms s))) (failsAt 4 (first (badKnowledge s) (entries s))) .0 r in
     let counts = none-fails (badCount s) 4 .0 (at-passes 2 _ .0 e2) in
     let bad-entry = none-fails (badKnowledge s) (entries s) .0 (at-passes 4 _ .0 e4) in
     let all : (i : ℕ) → i < terms s → Good s i = λ i l. good s i (none-fails (badTerm s) (terms s) .0 (at-passes 3 _ .0 e3) i l) in
@@ -198,6 +198,18 @@ pub compound-term : {s : List ℕ} → Listed s → (i : ℕ) (f : Form) → i <
 compound-term {s} z i f l e =
     let u : Below i (branch (make f) (xAt s i) (secondPart s i f)) = subst (Below i) (record-at s i (compound f) (ap shapeOf e ∙ kind-shape (compound f))) (z .table .earlier i l) in
     (omega arith, omega arith, term-of-kind s (z .bytes) (z .good) (z .table) i (compound f) l e)
+
+-- and by its form
+pub form-of : {s : List ℕ} → Listed s → (i : ℕ) (f : Form) (a b : Term) → i < terms s → term s i ≡ node (make f) a b →
+    (kindAt s i ≡ kindOf (compound f)) × HasSecond s i (second f)
+form-of {s} z i f a b l e = go (z .good i l .shape) (z .good i l .has) (z .good i l .fits)
+  where
+    go : (o : Shape) → shapeOf (kindAt s i) ≡ some o → Shaped s i o → (kindAt s i ≡ kindOf (compound f)) × HasSecond s i (second f)
+    go (atomic κ) h g = let u = sym (term-at s (z .bytes) (z .good) (z .table) i (atomic κ) l h) ∙ e in absurd (let o : _≡_ {A = ℕ} 0 1 = cc in omega arith)
+    go (compound o) h g =
+        let u = sym (term-at s (z .bytes) (z .good) (z .table) i (compound o) l h) ∙ e in
+        let p : o ≡ f = cc in
+        (shape-kind _ _ h ∙ ap (λ k. kindOf (compound k)) p, subst (λ k. HasSecond s i (second k)) p (g .1))
 
 -- ---- check 5
 abbrev pub InRange : List ℕ → Range → ℕ → Type 0
@@ -240,7 +252,7 @@ step-below s inverse-key n l = l
 pub claimed : (s : List ℕ) → Bytes s → checks1to5 s ≡ passes → Claimed s
 unfolding checks1to5 goodClaim
 claimed s b e =
-    let (r, e5) = then-passes (checks1to4 s) (check5 s) .0 e in
+    let (r, e5) = then-passes (checks1to4 s) (failsIf (not (goodClaim s)) 5 0) .0 e in
     let z = listed s b r in
     let (g, a, c) = says-all s .0 (not-not-false _ .0 (if-passes _ 5 0 .0 e5)) in
     let (κ, k) = atomic-shape _ a in

@@ -7,14 +7,13 @@ use mathlib.Core.List.{List}
 use Prim.Native.Nat.{ℕ, zero, suc, _+_, _*_, _^_, _/_, _≤_, _<_}
 use native.Mathlib.Nat.{pow-suc, le-trans}
 use native.Mathlib.Omega.{arith}
-use lib.Dec.{eqb, lit≤}
 use lib.ListN.{length, take, length-append}
 use Rattle.base.proofs.Order.{lt-or-ge}
 use Rattle.term.specs.Rule.{hasOne}
 use Rattle.term.proofs.Rule.{word-length}
 use Rattle.base.specs.Answer.{done}
-use Rattle.base.specs.Bytes.{byte, Bytes}
-use Rattle.term.specs.Relation.{Relation, equal, inverse}
+use Rattle.base.specs.Lists.{byte, Bytes}
+use Rattle.term.specs.Term.{Relation, equal, inverses}
 use Rattle.program.specs.Tests.{relationOf, relationWord}
 use Rattle.program.specs.Program.{Instruction, Test, instructionAt, testAt}
 use Rattle.text.specs.Text.{digits, registerText, secondText, stepLine, stepLines, testLine, refusedText, answerText}
@@ -44,7 +43,7 @@ picked-length m false x y h k = k
 relation-length : (o : Option Relation) → length (relationWord o) ≤ 6
 relation-length none = omega arith
 relation-length (some equal) = omega arith
-relation-length (some inverse) = omega arith
+relation-length (some inverses) = omega arith
 
 second-length : (rule r : ℕ) → r < 1000 → length (secondText rule r) ≤ 5
 second-length rule r h = picked-length 5 (hasOne rule) _ _ (omega arith) (omega (arith, register-length r h))

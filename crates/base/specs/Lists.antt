@@ -1,0 +1,36 @@
+-- Lists: the first failing place, a list grown at its end, and bytes.
+use Rattle.base.specs.Words.{Bool, true, false, Option, none, some, List, [], _∷_, _++_, ℕ, zero, suc, _+_, _*_, _<_, getD}
+
+-- the first of i, i + 1, .. (n numbers) at which p holds
+unfoldable pub firstFrom : (ℕ → Bool) → ℕ → ℕ → Option ℕ
+firstFrom p i zero = none
+firstFrom p i (suc n) = elim (p i) [ true ↦ some i | false ↦ firstFrom p (suc i) n ]
+
+-- the first number below n at which p holds: every refusal that names a place names the first one that fails
+unfoldable pub first : (ℕ → Bool) → ℕ → Option ℕ
+first p n = firstFrom p 0 n
+
+-- whether p holds at some number below n
+unfoldable pub any : (ℕ → Bool) → ℕ → Bool
+any p n = elim (first p n) [ none ↦ false | some i ↦ true ]
+
+-- the list start, and then the entries 0 to i - 1 that next makes, each from those before it
+unfoldable pub grow : {A : Type 0} → List A → (List A → ℕ → A) → ℕ → List A
+grow start next zero = start
+grow start next (suc i) = grow start next i ++ next (grow start next i) i ∷ []
+
+-- f 0, f 1, .., f (n - 1)
+abbrev pub listed : {A : Type 0} → (ℕ → A) → ℕ → List A
+listed f n = grow [] (λ l i. f i) n
+
+-- the byte at i, and 0 past the end
+abbrev pub byte : List ℕ → ℕ → ℕ
+byte s i = getD s i 0
+
+-- "two-byte .. (high byte first)"
+abbrev pub word : List ℕ → ℕ → ℕ
+word s i = byte s i * 256 + byte s (i + 1)
+
+-- a list of bytes
+abbrev pub Bytes : List ℕ → Type 0
+Bytes s = (i : ℕ) → byte s i < 256

@@ -1,0 +1,41 @@
+-- Checks 6 and 7 as tests of term numbers. What they say of terms is in `Step`, by the theorems `fits-iff` and `founded-terms`.
+use Rattle.base.specs.{Words.Bool, Words._&&_, Words.not, Words.List, Words.ℕ, Words.eqb, Words.ltb, Lists.any}
+use Rattle.term.specs.{Term.Cipher, Term.symmetric, Term.asymmetric, Term.Side, Term.left, Term.right, Term.pair, Term.encryption, Term.Head, Term.make, Term.part, Term.decrypt, Term.compound, Computed.kindOf, Rule.isRule, Rule.headOf}
+use Rattle.submission.specs.{Record.terms, Record.kindAt, Record.xAt, Record.yAt, Record.ruleAt, Record.pAt, Record.qAt, Record.secondAt, Record.conclusionAt, Computed.areInverse}
+use Rattle.derivation.specs.Register.{written, holdsTerm, every}
+
+-- a register that counts and is written before step i holds the term t
+abbrev pub knownAmong : (ℕ → Bool) → List ℕ → ℕ → ℕ → Bool
+knownAmong counts s i t = any (holdsTerm counts s t) (written s i)
+
+abbrev pub isKnown : List ℕ → ℕ → ℕ → Bool
+isKnown s i t = knownAmong every s i t
+
+abbrev pub isRecord : List ℕ → ℕ → ℕ → ℕ → ℕ → Bool
+isRecord s n kind x y = eqb (kindAt s n) kind && (eqb (xAt s n) x && eqb (yAt s n) y)
+
+abbrev pub partAt : Side → List ℕ → ℕ → ℕ
+partAt left s n = xAt s n
+partAt right s n = yAt s n
+
+-- the term q opens what was encrypted under k
+abbrev pub opensWith : Cipher → List ℕ → ℕ → ℕ → Bool
+opensWith symmetric s k q = eqb k q
+opensWith asymmetric s k q = areInverse s k q
+
+-- the rule of this head concludes c from p and q
+abbrev pub follows : List ℕ → Head → ℕ → ℕ → ℕ → Bool
+follows s (make f) p q c = isRecord s c (kindOf (compound f)) p q
+follows s (part i) p q c = eqb (kindAt s p) (kindOf (compound pair)) && (eqb (partAt i s p) c && eqb q 0)
+follows s (decrypt k) p q c = eqb (kindAt s p) (kindOf (compound (encryption k))) && (eqb (xAt s p) c && opensWith k s (yAt s p) q)
+
+-- step i fails check 6
+unfoldable pub badStep : List ℕ → ℕ → Bool
+badStep s i =
+    not (isRule (ruleAt s i)
+    && (ltb (pAt s i) (terms s) && (ltb (qAt s i) (terms s) && (ltb (conclusionAt s i) (terms s)
+    && follows s (headOf (ruleAt s i)) (pAt s i) (qAt s i) (conclusionAt s i)))))
+
+-- step i fails check 7
+unfoldable pub unfounded : List ℕ → ℕ → Bool
+unfounded s i = not (isKnown s i (pAt s i) && isKnown s i (secondAt s i))
