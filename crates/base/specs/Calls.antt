@@ -1,8 +1,7 @@
 -- What a call promises: its answer, and the page where it writes one.
 use Rattle.base.specs.declared.Answer.the-variants as given
-use Rattle.base.specs.Words.{_≡_, List, ℕ}
+use Rattle.base.specs.{Words._≡_, Words.List, Words.ℕ, Answer.Answer, Answer.done, Answer.refused, Answer.pageAfter}
 use Rattle.base.specs.declared.Answer.{Answer as AnswerGiven}
-use Rattle.base.specs.Answer.{Answer, done, refused, pageAfter}
 
 -- the answer that a call's enum stands for
 abbrev pub answerOf : AnswerGiven → Answer

@@ -14,7 +14,7 @@ use Rattle.text.proofs.theory.TextLength.{accepted-whole, refused-whole}
 use Rattle.conditions.specs.declared.Verdict.{Verdict}
 use Rattle.conditions.specs.declared.Verdict.the-variants.{Accepted, Refused}
 use Rattle.conditions.specs.Check.{checkAnswer}
-use Rattle.conditions.specs.Page.{pageChecked}
+use Rattle.conditions.specs.Check.{pageChecked}
 use Rattle.checker.specs.Calls.{verdictText}
 use Rattle.conditions.specs.Calls.{verdictAnswer, Checked}
 use Rattle.checker.specs.Calls.{Printed}

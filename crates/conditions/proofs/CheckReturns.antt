@@ -28,7 +28,7 @@ use Rattle.program.specs.Program.{bytesOf, programLength}
 use Rattle.conditions.specs.declared.Verdict.{Verdict}
 use Rattle.conditions.specs.declared.Verdict.the-variants.{Accepted, Refused}
 use Rattle.conditions.specs.Check.{checks1to10, checkAnswer}
-use Rattle.conditions.specs.Page.{program}
+use Rattle.conditions.specs.Check.{program}
 use Rattle.conditions.specs.Calls.{verdictAnswer, Checked}
 use Rattle.conditions.specs.Code.{Founded, Acceptable}
 use Rattle.conditions.proofs.theory.ProgramRun.{program-bytes}

@@ -16,7 +16,7 @@ use Rattle.submission.specs.declared.Operand.the-variants.{VerifyingResult, Com
 use Rattle.submission.specs.Way.{Way, another-step, at-start, inverse-key, wayOf, row}
 use Rattle.submission.specs.Code.{wayIs, operandIs, rowIs, IsClaim}
 use Rattle.term.specs.Code.{relationIs}
-use Rattle.program.specs.Tests.{rowOf}
+use Rattle.program.specs.Program.{rowOf}
 use Rattle.derivation.specs.declared.Step.{Step}
 use Rattle.derivation.specs.declared.Registers.{Registers}
 use Rattle.derivation.specs.{Register.written, Register.every, Computed.isKnown}
@@ -31,7 +31,7 @@ use Rattle.program.specs.declared.Program.{Program as ProgramRead}
 use Rattle.program.specs.Program.{bytesOf, programLength}
 use Rattle.program.specs.Code.{instructionIn, testIn, programIn}
 use Rattle.program.proofs.theory.Value.{Holds, holds-more, holds-all, held-count}
-use Rattle.conditions.specs.Page.{lowest, named, instruction, program, testFor}
+use Rattle.conditions.specs.Check.{lowest, named, instruction, program, testFor}
 use Rattle.conditions.specs.Code.{Acceptable, Held}
 use Rattle.conditions.proofs.PassedFacts.{second-is, founded-claimed, acceptable-founded, acceptable-limited, second-way}
 use Rattle.conditions.proofs.theory.ProgramRun.{program-steps}
@@ -91,7 +91,7 @@ module _ {s : List ℕ} (h : Acceptable s) where
     right-held = rw (ap (λ z. z .against) e) (tested-held (wayIs (c .way)) (k .way) .1)
 
     pub test-is : {l a b : ℕ} → l ≡ rowOf (relationIs (x .relation)) .letter → a ≡ named s (operandIs (x .tested)) → b ≡ named s (operandIs (x .against)) →
-        record { letter = l; left = a; right = b } ≡ testFor s (wayOf (wayAt s))
+        record { rule = l; left = a; right = b } ≡ testFor s (wayOf (wayAt s))
     test-is f a b = rw (k .way, f, a, b, ← e)
 
 -- ---- one operand

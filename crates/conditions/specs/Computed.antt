@@ -3,9 +3,8 @@ use mathlib.Core.{Bool.Bool, Bool.false, Bool._&&_, Bool._||_, Bool.not, List.Li
 use Prim.Native.Nat.{ℕ}
 use lib.Dec.{eqb}
 use Rattle.term.specs.Computed.{ruleTakesApart}
-use Rattle.submission.specs.{Record.steps, Record.ruleAt, Record.pAt, Record.conclusionAt, Record.verifying, Record.wayAt, Record.companion, Computed.areInverse, Way.Way, Way.another-step, Way.at-start, Way.inverse-key, Way.wayOf, Way.row}
+use Rattle.submission.specs.{Record.steps, Record.ruleAt, Record.pAt, Record.conclusionAt, Record.verifying, Record.wayAt, Record.companion, Computed.areInverse, Way.Way, Way.another-step, Way.at-start, Way.inverse-key, Way.wayOf, Way.row, Record.secondAt}
 use Rattle.derivation.specs.Computed.{isKnown}
-use Rattle.submission.specs.Record.{secondAt}
 use Rattle.deduction.specs.Computed.{entryMarks, isDeducible}
 
 -- condition 3 is broken: every premise of the verifying step is deducible from the knowledge, in which the guess does not count

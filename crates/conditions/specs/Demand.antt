@@ -4,7 +4,7 @@ use Rattle.term.specs.Term.{Fresh}
 use Rattle.submission.specs.Record.{steps, guess, nameAt, InKnowledge}
 use Rattle.program.specs.Program.{bytesOf, programLength}
 use Rattle.machine.specs.Run.{guessed, runAnswer}
-use Rattle.conditions.specs.{Check.checkAnswer, Condition.WellFormed, Condition.FiveConditions, Page.program, Page.pageChecked}
+use Rattle.conditions.specs.{Check.checkAnswer, Condition.WellFormed, Condition.FiveConditions, Check.program, Check.pageChecked}
 
 -- Demand 2: "A submission is accepted exactly when it is well formed, meets the five conditions of document 01 and has a page long
 -- enough", and the acceptance carries N.

@@ -4,4 +4,3 @@ pub mod Code
 pub mod Computed
 pub mod Condition
 pub mod Demand
-pub mod Page

@@ -17,7 +17,7 @@ ghost use Rattle.derivation.specs.Register.{written};
 ghost use Rattle.derivation.specs.Code.{Registered};
 ghost use Rattle.program.specs.Program.{bytesOf, programLength};
 ghost use Rattle.program.specs.Code.{instructionIn, testIn, programIn};
-ghost use Rattle.conditions.specs.Page.{instruction, named as namedBy, program, testFor};
+ghost use Rattle.conditions.specs.Check.{instruction, named as namedBy, program, testFor};
 ghost use Rattle.conditions.specs.Code.{Acceptable, Held};
 ghost use Rattle.submission.specs.Way.{wayOf};
 

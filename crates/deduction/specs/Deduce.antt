@@ -1,5 +1,4 @@
--- The answer of deducible: document 01, 'Dolev-Yao steps' and row 12 of 'Verdicts'. How it is computed is in `Computed`; that it is yes exactly
--- for what finite lists of steps reach is a theorem, `yes-exact` and `no-exact`.
+-- The answer of deducible: document 01, 'Dolev-Yao steps' and 'Verdicts'. It is yes exactly for what is `Deducible`: `yes-exact`, `no-exact`.
 use Rattle.base.specs.{Words._≡_, Words.not, Words.cond, Words.List, Words.ℕ, Words._<_, Words.ltb, Answer.Answer, Answer.done, Answer.failsIf, Answer.andThen, Answer.answered}
 use Rattle.submission.specs.{Record.terms, Record.entries, Record.entryAt, Record.recordAt, Check.checks1to4}
 use Rattle.deduction.specs.Computed.{entryMarks, isDeducible}

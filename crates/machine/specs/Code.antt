@@ -16,7 +16,7 @@ use Rattle.machine.specs.declared.Cipher.{Cipher}
 use Rattle.machine.specs.declared.Cipher.the-variants.{Symmetric, Asymmetric}
 use Rattle.machine.specs.declared.Side.{Side}
 use Rattle.machine.specs.declared.Side.the-variants.{Left, Right}
-use Rattle.program.specs.Program.{Instruction, Test, operand}
+use Rattle.program.specs.Program.{Instruction, operand}
 use Rattle.machine.specs.Run.{atomKind, initial, registers}
 
 -- ---- small enums
@@ -189,7 +189,7 @@ pub record Running (s : List ℕ) (name : ℕ) (P : List ℕ) (n : ℕ) (m : Mac
   pub few : m .nodes ≤ 251 + n
 
 -- a test that the state m can make
-pub record Testable (m : Machine) (t : Test) : Type 0 where
+pub record Testable (m : Machine) (t : Instruction) : Type 0 where
   pub sound : SoundState m
   pub left : t .left < m .used
   pub right : t .right < m .used

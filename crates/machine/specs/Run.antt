@@ -1,9 +1,8 @@
 -- The machine: document 01, 'Machine'. "Run takes a submission, a 16-bit name and a program."
-use Rattle.base.specs.{Words.Bool, Words.false, Words.cond, Words.List, Words.[], Words._∷_, Words._++_, Words.Option, Words.none, Words.some, Words.ℕ, Words.getD, Lists.grow, Lists.listed, Answer.Answer, Answer.done, Answer.failsIf, Answer.andThen, Answer.answered, Lists.byte}
+use Rattle.base.specs.{Words.Bool, Words.false, Words.cond, Words.List, Words.[], Words._∷_, Words._++_, Words.Option, Words.none, Words.some, Words.ℕ, Words.getD, Lists.grow, Lists.listed, Answer.Answer, Answer.done, Answer.failsIf, Answer.andThen, Answer.answered, Lists.byte, Words.truth}
 use Rattle.term.specs.{Term.Kind, Term.plain, Term.asymmetric, Term.Shape, Term.atomic, Term.compound, Term.Term, Term.atom, Computed.term?, Kind.shapeOf, Table.void, Reduce.op, Computed.match?, Rule.headOf, Term.Relation, Term.equal, Term.inverses}
-use Rattle.base.specs.Words.{truth}
 use Rattle.submission.specs.{Record.entries, Record.entryAt, Record.guess, Record.kindAt, Record.term, Check.checks1to5}
-use Rattle.program.specs.{Tests.relationOf, Program.Instruction, Program.Test, Program.instructionAt, Program.testAt, Program.operand, Program.badProgram}
+use Rattle.program.specs.Program.{relationOf, Instruction, instructionAt, testAt, operand, badProgram}
 
 abbrev pub atomKind : Option Shape → Kind
 atomKind none = plain
@@ -32,8 +31,8 @@ holds none a b = false
 holds (some equal) a b = truth (term? b a)
 holds (some inverses) a b = truth (match? asymmetric a b)
 
-unfoldable pub signals : List Term → Test → Bool
-signals vs t = holds (relationOf (t .letter)) (getD vs (t .left) void) (getD vs (t .right) void)
+unfoldable pub signals : List Term → Instruction → Bool
+signals vs t = holds (relationOf (t .rule)) (getD vs (t .left) void) (getD vs (t .right) void)
 
 unfoldable pub signal : List ℕ → ℕ → List ℕ → ℕ
 signal s name P = cond (signals (registers s name P (byte P 0)) (testAt P)) 1 0

@@ -22,7 +22,7 @@ ghost use Rattle.base.specs.Lists.{byte as byteAt};
 ghost use Rattle.submission.specs.Record.{terms as termCount, entries as entryCount, recordAt};
 ghost use mathlib.Core.Option.{some};
 ghost use Rattle.term.specs.Code.{relationIs};
-ghost use Rattle.program.specs.Tests.{relationOf};
+ghost use Rattle.program.specs.Program.{relationOf};
 ghost use Rattle.program.specs.Program.{testAt, badProgram};
 ghost use Rattle.program.specs.Code.{instructionIn};
 ghost use Rattle.machine.specs.Run.{executed as executedTerm, signals};
@@ -434,7 +434,7 @@ fn bit(b: bool) -> u16
 // The signal of the program's test, which asks for this relation.
 fn signal(program: &[u8], relation: Relation, m: Machine) -> u16
     requires { ⌜ Testable m (testAt (now program)) ⌝ }
-    requires { ⌜ relationOf (testAt (now program) .letter) ≡ some (relationIs relation) ⌝ }
+    requires { ⌜ relationOf (testAt (now program) .rule) ≡ some (relationIs relation) ⌝ }
     ensures { λ r. ⌜ r ≡ cond (signals (values m) (testAt (now (program .entry)))) 1 0 ⌝ }
 {
     let t = program::test_at(program);

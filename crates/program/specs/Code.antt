@@ -9,7 +9,7 @@ use Rattle.program.specs.declared.Instruction.{Instruction as Instructio
 use Rattle.program.specs.declared.Test.{Test as TestRead}
 use Rattle.program.specs.declared.Program.{Program as ProgramRead}
 use Rattle.term.specs.{Term.Relation, Code.relationIs}
-use Rattle.program.specs.{Tests.relationOf, Program.Instruction, Program.Test, Program.Program, Program.testAt, Program.badProgram}
+use Rattle.program.specs.Program.{relationOf, Instruction, Program, testAt, badProgram}
 
 abbrev pub relationIn : Asked → Option Relation
 relationIn (Asks r) = some (relationIs r)
@@ -17,13 +17,13 @@ relationIn Nothing = none
 
 -- the relation that the test of a program asks for; none where check 13 fails
 abbrev pub asked : List ℕ → List ℕ → Option Relation
-asked s P = cond (badProgram s P) none (relationOf (testAt P .letter))
+asked s P = cond (badProgram s P) none (relationOf (testAt P .rule))
 
 abbrev pub instructionIn : InstructionRead → Instruction
 instructionIn i = record { rule = i .rule; left = i .left; right = i .right }
 
-abbrev pub testIn : TestRead → Test
-testIn t = record { letter = t .letter; left = t .left; right = t .right }
+abbrev pub testIn : TestRead → Instruction
+testIn t = record { rule = t .letter; left = t .left; right = t .right }
 
 -- instruction i of a program's value
 abbrev pub heldAt : ProgramRead → ℕ → Instruction

@@ -1,24 +1,36 @@
--- Register programs: their instructions and test, their bytes, and check 13. Document 01, 'The register program' and 'Verdicts'.
-use Rattle.base.specs.{Words.Bool, Words.true, Words.Option, Words.none, Words.some, Words._&&_, Words._||_, Words.not, Words.cond, Words.List, Words.[], Words._∷_, Words._++_, Words.ℕ, Words._+_, Words._*_, Words.eqb, Words.ltb, Words.length, Lists.any, Lists.byte}
-use Rattle.term.specs.{Term.Relation, Rule.isRule, Rule.hasOne}
+-- Register programs: their tests, instructions and bytes, and check 13. Document 01, 'The register program' and 'Verdicts'.
+use Rattle.base.specs.{Words.cond, Words.List, Words.[], Words._∷_, Words.Option, Words.none, Words.some, Words.ℕ, Words.eqb, Words.Bool, Words.true, Words._&&_, Words._||_, Words.not, Words._++_, Words._+_, Words._*_, Words.ltb, Words.length, Lists.any, Lists.byte}
+use Rattle.term.specs.{Term.Relation, Term.equal, Term.inverses, Rule.isRule, Rule.hasOne}
 use Rattle.submission.specs.Record.{entries}
-use Rattle.program.specs.Tests.{rowOf, relationOf}
 
--- "per step the rule number and two registers"
+-- a test's letter, how many registers it names (the byte of one that it does not name is 0), and its printed word
+pub record TestRow : Type 0 where
+  pub letter : ℕ
+  pub registers : ℕ
+  pub word : List ℕ
+
+-- "`=` (3D) or `i` (69), then two registers"; "`i` prints as `hasinv`"
+abbrev pub rowOf : Relation → TestRow
+rowOf equal = record { letter = 0x3D; registers = 2; word = 0x3D ∷ [] }
+rowOf inverses = record { letter = 0x69; registers = 2; word = 0x68 ∷ 0x61 ∷ 0x73 ∷ 0x69 ∷ 0x6E ∷ 0x76 ∷ [] }
+
+-- the relation of a letter
+unfoldable pub relationOf : ℕ → Option Relation
+relationOf l = cond (eqb l (rowOf equal .letter)) (some equal) (cond (eqb l (rowOf inverses .letter)) (some inverses) none)
+
+abbrev pub relationWord : Option Relation → List ℕ
+relationWord none = []
+relationWord (some r) = rowOf r .word
+
+-- "per step the rule number and two registers"; the test, "`=` (3D) or `i` (69), then two registers", has its letter in the rule's place
 pub record Instruction : Type 0 where
   pub rule : ℕ
   pub left : ℕ
   pub right : ℕ
 
--- "a test of 3 bytes: `=` (3D) or `i` (69), then two registers"
-pub record Test : Type 0 where
-  pub letter : ℕ
-  pub left : ℕ
-  pub right : ℕ
-
 pub record Program : Type 0 where
   pub steps : List Instruction
-  pub test : Test
+  pub test : Instruction
 
 -- "N in one byte, then per step the rule number and two registers .., then a test of 3 bytes"
 unfoldable pub instructionBytes : List Instruction → List ℕ
@@ -26,7 +38,7 @@ instructionBytes [] = []
 instructionBytes (i ∷ is) = i .rule ∷ i .left ∷ i .right ∷ instructionBytes is
 
 unfoldable pub bytesOf : Program → List ℕ
-bytesOf p = length (p .steps) ∷ (instructionBytes (p .steps) ++ p .test .letter ∷ p .test .left ∷ p .test .right ∷ [])
+bytesOf p = length (p .steps) ∷ instructionBytes (p .steps ++ p .test ∷ [])
 
 -- "It is 3N+4 bytes in all"
 abbrev pub programLength : ℕ → ℕ
@@ -36,8 +48,8 @@ programLength n = 3 * n + 4
 unfoldable pub instructionAt : List ℕ → ℕ → Instruction
 instructionAt P i = record { rule = byte P (3 * i + 1); left = byte P (3 * i + 2); right = byte P (3 * i + 3) }
 
-unfoldable pub testAt : List ℕ → Test
-testAt P = record { letter = byte P (3 * byte P 0 + 1); left = byte P (3 * byte P 0 + 2); right = byte P (3 * byte P 0 + 3) }
+abbrev pub testAt : List ℕ → Instruction
+testAt P = instructionAt P (byte P 0)
 
 -- the second operand's register; a rule with one operand takes it twice
 abbrev pub operand : Instruction → ℕ
@@ -52,12 +64,12 @@ unfoldable pub badInstruction : ℕ → Instruction → Bool
 badInstruction n i = not (isRule (i .rule) && goodRegisters n (hasOne (i .rule)) (i .left) (i .right))
 
 -- a test of this relation over n registers: "register not yet written; unused byte not 0; test letter"
-abbrev pub badFor : ℕ → Test → Option Relation → Bool
+abbrev pub badFor : ℕ → Instruction → Option Relation → Bool
 badFor n t none = true
 badFor n t (some r) = not (goodRegisters n (eqb (rowOf r .registers) 1) (t .left) (t .right))
 
-unfoldable pub badTest : ℕ → Test → Bool
-badTest n t = badFor n t (relationOf (t .letter))
+unfoldable pub badTest : ℕ → Instruction → Bool
+badTest n t = badFor n t (relationOf (t .rule))
 
 -- 13 program: "empty; length not 3n+4 or n over 128, n the first byte; rule; register not yet written; unused byte not 0; test letter"
 unfoldable pub badProgram : List ℕ → List ℕ → Bool

@@ -11,11 +11,11 @@ ghost use Rattle.base.specs.Lists.{any};
 ghost use Rattle.base.specs.Lists.{listed};
 ghost use Rattle.base.specs.Lists.{byte as byteAt};
 ghost use Rattle.term.specs.Code.{relationIs};
-ghost use Rattle.program.specs.Tests.{rowOf, relationOf};
+ghost use Rattle.program.specs.Program.{rowOf, relationOf};
 ghost use Rattle.program.specs.Program.{instructionBytes, bytesOf, programLength, instructionAt, testAt, operand, goodRegisters, badInstruction, badTest, badProgram};
 ghost use Rattle.program.specs.Code.{relationIn, asked, instructionIn, testIn, heldAt, programIn};
 
-// ---- The tests, as specs/Tests.antt lists them.
+// ---- The tests, as specs/Program.antt lists them.
 
 pub const EQUAL: u8 = b'=';
 

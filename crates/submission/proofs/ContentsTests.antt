@@ -7,7 +7,7 @@ use borrow.Author.Tests.{eq-eqb, ne-eqb, lt-ltb, le-ltb}
 use mathlib.Core.Option.{none, some}
 use Rattle.base.specs.{Lists.any, Lists.first, Lists.firstFrom, Code.isSome}
 use Rattle.base.specs.Lists.{byte}
-use Rattle.submission.specs.Contents.{letter, count, wrongLetter, least, most, badCount}
+use Rattle.submission.specs.Record.{letter, count, wrongLetter, least, most, badCount}
 
 module _ (s : List ℕ) (i : ℕ) {r : ℕ} where
   pub letter-wrong : r ≡ byte s (4 * i) → (r ≡ letter i → ⊥) → wrongLetter s i ≡ true

@@ -8,7 +8,7 @@ use lib.Dec.{ltb}
 use borrow.Author.Tests.{ltb-false}
 use Rattle.base.proofs.Says.{or-false, none-fails}
 use Rattle.base.specs.Answer.{passes, failsIf, failsAt}
-use Rattle.submission.specs.Contents.{count, least, most, badCount, badContents}
+use Rattle.submission.specs.Record.{count, least, most, badCount, badContents}
 use Rattle.submission.specs.Code.{Limited}
 use Rattle.submission.specs.Check.{checks1to4, checks1to5, goodClaim}
 use Rattle.base.proofs.StageLaws.{bytes, stage-passes}

@@ -10,11 +10,7 @@ pub data Way : Type 0 where
 
 -- "way (letter a, b or c)"
 unfoldable pub wayOf : ℕ → Option Way
-wayOf l =
-    cond (eqb l 0x61) (some another-step)
-    (cond (eqb l 0x62) (some at-start)
-    (cond (eqb l 0x63) (some inverse-key)
-    none))
+wayOf l = cond (eqb l 0x61) (some another-step) (cond (eqb l 0x62) (some at-start) (cond (eqb l 0x63) (some inverse-key) none))
 
 -- what a number of the claim may be: a step's, a term's, or 0 only
 pub data Range : Type 0 where

@@ -13,7 +13,7 @@ ghost use Prim.Native.Nat.{_<_};
 ghost use lib.Dec.{eqb};
 ghost use Rattle.base.specs.Lists.{any, first};
 ghost use Rattle.term.specs.Kind.{shapeOf};
-ghost use Rattle.submission.specs.Contents.{wrongLetter, wrongStart, badContents, badCount};
+ghost use Rattle.submission.specs.Record.{wrongLetter, wrongStart, badContents, badCount};
 ghost use Rattle.submission.specs.Record.{terms as termCount, entries as entryCount, steps as stepCount, kindAt, xAt, yAt, entryAt, wayAt};
 ghost use Rattle.submission.specs.Computed.{areInverse};
 ghost use Rattle.submission.specs.Way.{wayOf, row, inRange, claimFits};

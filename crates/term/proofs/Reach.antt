@@ -5,7 +5,7 @@ use mathlib.Core.List.{List, [], _∷_}
 use Rattle.term.specs.Term.{Cipher, Side, pair, encryption, Head, make, part, decrypt, Term, node, Match, Part}
 use Rattle.term.specs.Code.{Message}
 use Rattle.term.specs.Term.{pick}
-use Rattle.term.specs.Step.{Step, Line, Reaches, Deducible}
+use Rattle.term.specs.Step.{Step, Reaches, Deducible}
 use Rattle.term.proofs.Reduce.{Atomic, step-message, step-part}
 
 pub data Reach (K : Term → Type 0) : Term → Type 0 where
@@ -35,11 +35,11 @@ pub reach-reach : {J K : Term → Type 0} → ((u : Term) → J u → Reach K u)
 reach-reach f {t} (known k) = f t k
 reach-reach f (stepped h p q s a b) = stepped h p q s (reach-reach f a) (reach-reach f b)
 
-list-reach : (K : Term → Type 0) (ls : List Line) (t : Term) → Reaches K ls t → Reach K t
+list-reach : (K : Term → Type 0) (ls : List (Head × Term × Term × Term)) (t : Term) → Reaches K ls t → Reach K t
 list-reach K [] t k = known k
-list-reach K (l ∷ ls) t (s, a, b, r) =
-    reach-reach (λ u k. ⊎-elim (λ v. known v) (λ e. rw e (stepped (l .rule) (l .premise) (l .other) s (known a) (known b))) k)
-    (list-reach (λ u. K u ⊎ (u ≡ l .conclusion)) ls t r)
+list-reach K ((h, p, q, c) ∷ ls) t (s, a, b, r) =
+    reach-reach (λ u k. ⊎-elim (λ v. known v) (λ e. rw e (stepped h p q s (known a) (known b))) k)
+    (list-reach (λ u. K u ⊎ (u ≡ c)) ls t r)
 
 -- a list that goes on after p was reached: the steps to p come first
 first-reach : {K : Term → Type 0} {p : Term} → Reach K p → (t : Term) (J : Term → Type 0) → ((u : Term) → K u → J u) →
@@ -48,7 +48,7 @@ first-reach {p = p} (known k) t J f go = go J (λ u j. j) (f p k)
 first-reach {p = p} (stepped h a b s x y) t J f go =
     first-reach x t J f (λ J₁ f₁ a₁. first-reach y t J₁ (λ u k. f₁ u (f u k)) (λ J₂ f₂ b₂.
     let (ls, r) = go (λ u. J₂ u ⊎ (u ≡ p)) (λ u j. inl (f₂ u (f₁ u j))) (inr refl) in
-    (record { rule = h; premise = a; other = b; conclusion = p } ∷ ls, (s, f₂ a a₁, b₂, r))))
+    ((h, a, b, p) ∷ ls, (s, f₂ a a₁, b₂, r))))
 
 pub reach-iff : (K : Term → Type 0) (t : Term) → Reach K t ↔ Deducible K t
 reach-iff K t = (λ r. first-reach r t K (λ u k. k) (λ J f j. ([], j)), λ d. list-reach K (d .0) t (d .1))

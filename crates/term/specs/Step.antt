@@ -8,22 +8,15 @@ Step (make f) p q t = Operands (second f) p q × (t ≡ node (make f) p q)
 Step (part s) p q t = ((x y : Term) × (p ≡ node (make pair) x y) × (t ≡ pick s x y)) × (q ≡ p)
 Step (decrypt c) p q t = (k : Term) × (p ≡ node (make (encryption c)) t k) × Match c k q
 
--- one step of a list: the rule, its premises and its conclusion
-pub record Line : Type 0 where
-  pub rule : Head
-  pub premise : Term
-  pub other : Term
-  pub conclusion : Term
-
--- "a finite list of such steps reaches it": the premises of each step are in K or were concluded earlier, and so is t
-abbrev pub Reaches : (Term → Type 0) → List Line → Term → Type 0
+-- "a finite list of such steps reaches it", each with its rule, premises and conclusion: the premises of each are in K or were concluded
+-- earlier, and so is t
+abbrev pub Reaches : (Term → Type 0) → List (Head × Term × Term × Term) → Term → Type 0
 Reaches K [] t = K t
-Reaches K (l ∷ ls) t =
-    Step (l .rule) (l .premise) (l .other) (l .conclusion) × K (l .premise) × K (l .other) × Reaches (λ u. K u ⊎ (u ≡ l .conclusion)) ls t
+Reaches K ((h, p, q, c) ∷ ls) t = Step h p q c × K p × K q × Reaches (λ u. K u ⊎ (u ≡ c)) ls t
 
 -- "A term is deducible if a finite list of such steps reaches it from the knowledge alone, over all terms"
 abbrev pub Deducible : (Term → Type 0) → Term → Type 0
-Deducible K t = (ls : List Line) × Reaches K ls t
+Deducible K t = (ls : List (Head × Term × Term × Term)) × Reaches K ls t
 
 -- what a head takes apart, by the head that builds it: fst and snd a pair, dec and deca an encryption
 abbrev pub takenBy : Head → Option Head

@@ -14,8 +14,8 @@ use Rattle.term.specs.Rule.{rules, wordOf, hasOne}
 use Rattle.term.proofs.Numbered.{same-below}
 use Rattle.term.proofs.Rule.{no-word}
 use Rattle.base.specs.Answer.{done}
-use Rattle.program.specs.Tests.{relationOf, relationWord, rowOf}
-use Rattle.program.specs.Program.{Instruction, Test, instructionAt, testAt}
+use Rattle.program.specs.Program.{relationOf, relationWord, rowOf}
+use Rattle.program.specs.Program.{Instruction, instructionAt, testAt}
 use Rattle.term.specs.declared.Relation.{Relation}
 use Rattle.term.specs.Code.{relationIs}
 use Rattle.program.specs.declared.Asked.{Asked}
@@ -23,7 +23,7 @@ use Rattle.program.specs.declared.Asked.the-variants.{Asks, Nothing}
 use Rattle.program.specs.declared.Instruction.{Instruction as InstructionRead}
 use Rattle.program.specs.declared.Test.{Test as TestRead}
 use Rattle.program.specs.Code.{relationIn, instructionIn, testIn}
-use Rattle.text.specs.Text.{decimal, space, newline, registerText, secondText, stepLine, stepLines, signalWord, acceptedWord, refusedWord, testLine, refusedText, answerText}
+use Rattle.text.specs.Text.{decimal, space, newline, registerText, secondText, stepLine, stepLines, testLine, refusedText, answerText}
 use Rattle.text.specs.Puts.{Puts}
 use Rattle.text.proofs.theory.PutLaws.{puts-none, puts-then}
 
@@ -80,12 +80,12 @@ module _ {p0 p1 p2 p3 p4 p5 p6 p7 : List ℕ} {a0 a1 a2 a3 a4 a5 a6 a7 v : ℕ} 
       let m = subst (λ (u : List ℕ). Puts p0 a0 u p2 a2) (grouped (registerText r) space (0x3D ∷ []) space) (puts-then l0 l1) in
       rw (← h, ← d) (puts-then (puts-then (puts-then (puts-then (puts-then m l2) l3) l4) l5) l6)
 
-  pub test-put : {w : ℕ} {t : TestRead} {x : Test} → testIn t ≡ x → Puts p0 a0 (signalWord ++ space) p1 a1 → v ≡ t .left → Puts p1 a1 (registerText v) p2 a2 → Puts p2 a2 space p3 a3 → Puts p3 a3 (relationWord (relationOf (t .letter))) p4 a4 → Puts p4 a4 space p5 a5 → w ≡ t .right → Puts p5 a5 (registerText w) p6 a6 → Puts p6 a6 newline p7 a7 → Puts p0 a0 (testLine x) p7 a7
+  pub test-put : {w : ℕ} {t : TestRead} {x : Instruction} → testIn t ≡ x → Puts p0 a0 ((0x73 ∷ 0x69 ∷ 0x67 ∷ 0x6E ∷ 0x61 ∷ 0x6C ∷ []) ++ space) p1 a1 → v ≡ t .left → Puts p1 a1 (registerText v) p2 a2 → Puts p2 a2 space p3 a3 → Puts p3 a3 (relationWord (relationOf (t .letter))) p4 a4 → Puts p4 a4 space p5 a5 → w ≡ t .right → Puts p5 a5 (registerText w) p6 a6 → Puts p6 a6 newline p7 a7 → Puts p0 a0 (testLine x) p7 a7
   unfolding testLine
   test-put h l0 d l1 l2 l3 l4 e l5 l6 =
       rw (← h, ← d, ← e) (puts-then (puts-then (puts-then (puts-then (puts-then (puts-then l0 l1) l2) l3) l4) l5) l6)
 
-pub refused-put : {p0 p1 p2 p3 p4 p5 : List ℕ} {a0 a1 a2 a3 a4 a5 w : ℕ} (number place : ℕ) → Puts p0 a0 (refusedWord ++ space) p1 a1 → w ≡ number → Puts p1 a1 (decimal w) p2 a2 → Puts p2 a2 space p3 a3 → Puts p3 a3 (decimal place) p4 a4 → Puts p4 a4 newline p5 a5 → Puts p0 a0 (refusedText number place) p5 a5
+pub refused-put : {p0 p1 p2 p3 p4 p5 : List ℕ} {a0 a1 a2 a3 a4 a5 w : ℕ} (number place : ℕ) → Puts p0 a0 ((0x72 ∷ 0x65 ∷ 0x66 ∷ 0x75 ∷ 0x73 ∷ 0x65 ∷ 0x64 ∷ []) ++ space) p1 a1 → w ≡ number → Puts p1 a1 (decimal w) p2 a2 → Puts p2 a2 space p3 a3 → Puts p3 a3 (decimal place) p4 a4 → Puts p4 a4 newline p5 a5 → Puts p0 a0 (refusedText number place) p5 a5
 refused-put number place l0 e l1 l2 l3 l4 = rw (← e) (puts-then (puts-then (puts-then (puts-then l0 l1) l2) l3) l4)
 
 -- all lines of a program
@@ -100,6 +100,6 @@ steps-more r page n p e q = rw add-one (puts-then p (rw e at q))
 pub steps-all : {a b : List ℕ} {i j : ℕ} (r : ℕ) (page : List ℕ) (m n : ℕ) → m ≤ n → n ≤ m → Puts a i (stepLines r page m) b j → Puts a i (stepLines r page n) b j
 steps-all r page m n l h p = rw (← (le-antisymm l h)) p
 
-pub accepted-put : {p0 p1 p2 p3 p4 p5 : List ℕ} {a0 a1 a2 a3 a4 a5 v w : ℕ} (known n : ℕ) (page : List ℕ) → Puts p0 a0 (acceptedWord ++ space) p1 a1 → w ≡ n → Puts p1 a1 (decimal w) p2 a2 → Puts p2 a2 newline p3 a3 → v ≡ known → Puts p3 a3 (stepLines (v + 1) page n) p4 a4 → Puts p4 a4 (testLine (testAt page)) p5 a5 → Puts p0 a0 (answerText known (done n) page) p5 a5
+pub accepted-put : {p0 p1 p2 p3 p4 p5 : List ℕ} {a0 a1 a2 a3 a4 a5 v w : ℕ} (known n : ℕ) (page : List ℕ) → Puts p0 a0 ((0x61 ∷ 0x63 ∷ 0x63 ∷ 0x65 ∷ 0x70 ∷ 0x74 ∷ 0x65 ∷ 0x64 ∷ []) ++ space) p1 a1 → w ≡ n → Puts p1 a1 (decimal w) p2 a2 → Puts p2 a2 newline p3 a3 → v ≡ known → Puts p3 a3 (stepLines (v + 1) page n) p4 a4 → Puts p4 a4 (testLine (testAt page)) p5 a5 → Puts p0 a0 (answerText known (done n) page) p5 a5
 unfolding answerText
 accepted-put known n page l0 d l1 l2 e l3 l4 = puts-then (puts-then (puts-then (puts-then l0 (rw d at l1)) l2) (rw e at l3)) l4

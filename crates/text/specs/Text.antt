@@ -1,7 +1,7 @@
 -- What the program `verdict` prints, as bytes: document 01, after 'Marked examples'.
 use Rattle.base.specs.{Words.true, Words.false, Words.cond, Words.List, Words.[], Words._∷_, Words._++_, Words.ℕ, Words.zero, Words.suc, Words._+_, Words._/_, Words._%_, Words.ltb, Answer.Answer, Answer.done, Answer.refused}
 use Rattle.term.specs.Rule.{wordOf, hasOne}
-use Rattle.program.specs.{Tests.relationOf, Tests.relationWord, Program.Instruction, Program.Test, Program.instructionAt, Program.testAt}
+use Rattle.program.specs.Program.{relationOf, relationWord, Instruction, instructionAt, testAt}
 
 -- a number in decimal, in ASCII; a number has fewer digits than itself and one
 unfoldable pub digits : ℕ → ℕ → List ℕ
@@ -18,16 +18,6 @@ space = 0x20 ∷ []
 abbrev pub newline : List ℕ
 newline = 0x0A ∷ []
 
--- the words refused, accepted and signal
-abbrev pub refusedWord : List ℕ
-refusedWord = 0x72 ∷ 0x65 ∷ 0x66 ∷ 0x75 ∷ 0x73 ∷ 0x65 ∷ 0x64 ∷ []
-
-abbrev pub acceptedWord : List ℕ
-acceptedWord = 0x61 ∷ 0x63 ∷ 0x63 ∷ 0x65 ∷ 0x70 ∷ 0x74 ∷ 0x65 ∷ 0x64 ∷ []
-
-abbrev pub signalWord : List ℕ
-signalWord = 0x73 ∷ 0x69 ∷ 0x67 ∷ 0x6E ∷ 0x61 ∷ 0x6C ∷ []
-
 -- r and the register's number
 abbrev pub registerText : ℕ → List ℕ
 registerText r = 0x72 ∷ decimal r
@@ -42,20 +32,22 @@ stepLine r i =
     registerText r ++ space ++ (0x3D ∷ []) ++ space ++ wordOf (i .rule) ++ space ++ registerText (i .left)
     ++ secondText (i .rule) (i .right) ++ newline
 
-unfoldable pub testLine : Test → List ℕ
+-- the line of the test, after the word signal
+unfoldable pub testLine : Instruction → List ℕ
 testLine t =
-    signalWord ++ space ++ registerText (t .left) ++ space ++ relationWord (relationOf (t .letter)) ++ space ++ registerText (t .right) ++ newline
+    (0x73 ∷ 0x69 ∷ 0x67 ∷ 0x6E ∷ 0x61 ∷ 0x6C ∷ []) ++ space ++ registerText (t .left) ++ space ++ relationWord (relationOf (t .rule)) ++ space ++ registerText (t .right) ++ newline
 
 -- the lines of the first n instructions on a page, the first of which writes register r
 unfoldable pub stepLines : ℕ → List ℕ → ℕ → List ℕ
 stepLines r page zero = []
 stepLines r page (suc n) = stepLines r page n ++ stepLine (r + n) (instructionAt page n)
 
+-- the words are refused and accepted
 abbrev pub refusedText : ℕ → ℕ → List ℕ
-refusedText number place = refusedWord ++ space ++ decimal number ++ space ++ decimal place ++ newline
+refusedText number place = (0x72 ∷ 0x65 ∷ 0x66 ∷ 0x75 ∷ 0x73 ∷ 0x65 ∷ 0x64 ∷ []) ++ space ++ decimal number ++ space ++ decimal place ++ newline
 
 -- "prints one line, `refused`, number, place, or `accepted` and N ..; after `accepted` come one line a step and the test"
 unfoldable pub answerText : ℕ → Answer → List ℕ → List ℕ
 answerText known (done n) page =
-    acceptedWord ++ space ++ decimal n ++ newline ++ stepLines (known + 1) page n ++ testLine (testAt page)
+    (0x61 ∷ 0x63 ∷ 0x63 ∷ 0x65 ∷ 0x70 ∷ 0x74 ∷ 0x65 ∷ 0x64 ∷ []) ++ space ++ decimal n ++ newline ++ stepLines (known + 1) page n ++ testLine (testAt page)
 answerText known (refused number place) page = refusedText number place

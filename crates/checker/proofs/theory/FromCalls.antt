@@ -23,7 +23,7 @@ use Rattle.conditions.specs.declared.Verdict.the-variants.{Accepted, Refused}
 use Rattle.conditions.specs.Calls.{verdictAnswer, Checked}
 use Rattle.conditions.specs.Check.{checkAnswer}
 use Rattle.conditions.specs.Condition.{WellFormed, FiveConditions}
-use Rattle.conditions.specs.Page.{program, pageChecked}
+use Rattle.conditions.specs.Check.{program, pageChecked}
 use Rattle.conditions.specs.Demand.{WrongGuess}
 use Rattle.conditions.specs.Demand.{KeptPromise}
 use Rattle.conditions.proofs.theory.Acceptance.{accepted-iff}

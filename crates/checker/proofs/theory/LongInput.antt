@@ -15,7 +15,7 @@ use Rattle.base.specs.Lists.{any}
 use Rattle.base.proofs.BoolLaws.{or-right}
 use Rattle.base.specs.Answer.{refused}
 use Rattle.base.specs.Lists.{Bytes}
-use Rattle.submission.specs.Contents.{start, wrongLetter, wrongStart, badContents}
+use Rattle.submission.specs.Record.{start, wrongLetter, wrongStart, badContents}
 use Rattle.submission.specs.Check.{checks1to4, checks1to5}
 use Rattle.text.specs.Text.{answerText, refusedText}
 use Rattle.conditions.specs.Check.{checks1to10, checkAnswer}

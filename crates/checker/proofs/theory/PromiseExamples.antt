@@ -15,14 +15,14 @@ use Rattle.term.specs.Computed.{isPart}
 use Rattle.term.specs.Table.{decoded}
 use Rattle.base.specs.Answer.{done}
 use Rattle.base.specs.Lists.{Bytes}
-use Rattle.submission.specs.Contents.{start}
+use Rattle.submission.specs.Record.{start}
 use Rattle.submission.specs.Record.{guess, nameAt, term, recordAt}
 use Rattle.term.specs.Kind.{shapeOf}
 use Rattle.program.specs.Program.{programLength}
 use Rattle.submission.specs.Computed.{isKnownPart, isFresh}
 use Rattle.submission.proofs.theory.FreshLaws.{says-fresh}
 use Rattle.machine.specs.Run.{guessed, runAnswer}
-use Rattle.conditions.specs.Page.{pageChecked}
+use Rattle.conditions.specs.Check.{pageChecked}
 use Rattle.conditions.specs.Demand.{WrongGuess}
 use Rattle.checker.proofs.theory.Examples.{Example, m1, m3, m8, got, want, example-right}
 use Rattle.conditions.proofs.theory.Acceptance.{accepted-iff}

@@ -24,7 +24,7 @@ use Rattle.machine.specs.Run.{guessed, executed, registers}
 use Rattle.program.proofs.theory.Bytes.{program-length, instruction-back}
 use Rattle.machine.proofs.theory.RunRegisters.{register-kept, register-written, register-entry, register-guess}
 use Rattle.derivation.specs.Step.{rule, firstPremise, secondPremise, concluded}
-use Rattle.conditions.specs.Page.{lowest, instruction, program}
+use Rattle.conditions.specs.Check.{lowest, instruction, program}
 
 module _ (s : List ℕ) where
   -- ---- "A premise is taken from its lowest register."

@@ -12,7 +12,7 @@ use Rattle.program.specs.Program.{bytesOf, programLength}
 use Rattle.machine.specs.Run.{signal, runAnswer}
 use Rattle.conditions.specs.Check.{checkAnswer}
 use Rattle.conditions.specs.Condition.{WellFormed, FiveConditions}
-use Rattle.conditions.specs.Page.{program, pageChecked}
+use Rattle.conditions.specs.Check.{program, pageChecked}
 use Rattle.conditions.specs.Demand.{Demand3, EveryGoodAccepted}
 use Rattle.conditions.proofs.theory.Acceptance.{accepted-iff}
 use Rattle.conditions.proofs.theory.ProgramRun.{program-bytes}

@@ -28,7 +28,7 @@ use Rattle.derivation.specs.{Register.written, Computed.isKnown}
 use Rattle.submission.specs.Record.{secondAt}
 use Rattle.derivation.proofs.theory.RegisterTerms.{says-known, result-register}
 use Rattle.derivation.proofs.theory.StepMeaning.{founded-iff}
-use Rattle.program.specs.Tests.{relationOf}
+use Rattle.program.specs.Program.{relationOf}
 use Rattle.program.specs.Program.{bytesOf, badInstruction, badTest, badProgram}
 use Rattle.machine.specs.Run.{atomKind, guessed, holds as relates, signals, signal}
 use Rattle.program.proofs.theory.Bytes.{byte-count, test-back, program-passes}
@@ -36,7 +36,7 @@ use Rattle.machine.proofs.theory.RunRegisters.{register-entry, register-guess, 
 use Rattle.conditions.specs.Computed.{hasSecondWay}
 use Rattle.conditions.specs.Condition.{WellFormed, FiveConditions, Differs, SecondWay, UndoesNone}
 use Rattle.derivation.specs.Step.{rule, firstPremise, secondPremise, concluded}
-use Rattle.conditions.specs.Page.{lowest, instruction, program, testFor}
+use Rattle.conditions.specs.Check.{lowest, instruction, program, testFor}
 use Rattle.conditions.specs.Demand.{WrongGuess}
 use Rattle.conditions.proofs.theory.ConditionsMeant.{founded-terms, second-way-iff}
 use Rattle.conditions.proofs.theory.ProgramRun.{lowest-known, program-steps, value, result, same-operand, holds, holds-lowest}
@@ -53,11 +53,11 @@ unlike s i j (inr f) a b d = f (λ x. (⊎-elim (λ e. inl (e ∙ b)) (λ e. inr
 -- what the program's test asks of the registers
 module _ (s : List ℕ) (name : ℕ) where
   abbrev asked : Option Way → Bool
-  asked o = relates (relationOf (testFor s o .letter)) (value s name (steps s) (testFor s o .left)) (value s name (steps s) (testFor s o .right))
+  asked o = relates (relationOf (testFor s o .rule)) (value s name (steps s) (testFor s o .left)) (value s name (steps s) (testFor s o .right))
 
   signal-asks : signal s name (bytesOf (program s)) ≡ cond (asked (wayOf (wayAt s))) 1 0
   unfolding signal signals program
-  signal-asks = rw (byte-count (program s), program-steps s, test-back (program s))
+  signal-asks = rw (test-back (program s), byte-count (program s), program-steps s)
 
 module _ (s : List ℕ) (bytes : Bytes s) (w : WellFormed s) (c : FiveConditions s) where
   claim : Claimed s

@@ -14,7 +14,7 @@ use Rattle.base.specs.Words.{truth}
 use Rattle.term.specs.Table.{Rec, leaf, branch, message}
 use Rattle.term.specs.Code.{Below}
 use Rattle.term.specs.Computed.{match?}
-use Rattle.term.specs.Reduce.{cancelled, paired, parted, made, op}
+use Rattle.term.specs.Reduce.{cancelled, paired, parted, op}
 use Rattle.term.specs.Term.{pick}
 use Rattle.term.specs.Rule.{rules, headOf}
 use Rattle.term.specs.Code.{ruleOf}
@@ -255,9 +255,9 @@ reductions a b =
     (ruleOf (make pair), paired a b)
     ∷ (ruleOf (part left), parted left a b)
     ∷ (ruleOf (part right), parted right a b)
-    ∷ (ruleOf (make (encryption symmetric)), made (encryption symmetric) a b)
+    ∷ (ruleOf (make (encryption symmetric)), cancelled symmetric (decrypt symmetric) (make (encryption symmetric)) a b)
     ∷ (ruleOf (decrypt symmetric), op (decrypt symmetric) a b)
-    ∷ (ruleOf (make (encryption asymmetric)), made (encryption asymmetric) a b)
+    ∷ (ruleOf (make (encryption asymmetric)), cancelled asymmetric (decrypt asymmetric) (make (encryption asymmetric)) a b)
     ∷ (ruleOf (decrypt asymmetric), op (decrypt asymmetric) a b)
     ∷ []
 

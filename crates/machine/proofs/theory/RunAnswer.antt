@@ -29,8 +29,8 @@ use Rattle.term.specs.declared.Relation.{Relation as RelationGiven}
 use Rattle.term.specs.declared.Relation.the-variants.{Equal, Inverse}
 use Rattle.term.specs.Code.{relationIs}
 use Rattle.term.specs.Term.{Relation, equal, inverses}
-use Rattle.program.specs.Tests.{relationOf}
-use Rattle.program.specs.Program.{Instruction, Test, instructionAt, testAt, badProgram}
+use Rattle.program.specs.Program.{relationOf}
+use Rattle.program.specs.Program.{Instruction, instructionAt, testAt, badProgram}
 use Rattle.program.specs.Code.{relationIn, asked}
 use Rattle.program.proofs.theory.Check13.{good, good-instruction, good-test, program-good, program-bad}
 use Rattle.machine.specs.Run.{executed, registers, holds, signals, signal, runAnswer}
@@ -73,7 +73,7 @@ pub running-all : {s P : List ℕ} {name i n : ℕ} {m : Machine} → Running s 
 running-all {s} {P} {name} {i} {n} h a b c = let e : i ≡ byte P 0 = omega arith in rw (← e) h
 
 -- ---- the test
-module _ (P : List ℕ) {m : Machine} {u : Test} {p q : ℕ} (w : Testable m (testAt P)) (z : u ≡ testAt P) (e : p ≡ u .left) (f : q ≡ u .right) where
+module _ (P : List ℕ) {m : Machine} {u : Instruction} {p q : ℕ} (w : Testable m (testAt P)) (z : u ≡ testAt P) (e : p ≡ u .left) (f : q ≡ u .right) where
   pub left-below : getD (m .registers) p 0 < m .nodes
   left-below = rw (e, z) (w .sound .written _ (w .left))
 
@@ -87,15 +87,15 @@ module _ (P : List ℕ) {m : Machine} {u : Test} {p q : ℕ} (w : Testable m (te
   right-in = omega (arith, right-below, w .room)
 
   -- what the test's relation says of the two values
-  tested : {b : Bool} {r : ℕ} (o : Option Relation) → relationOf (u .letter) ≡ o → b ≡ holds o (termAt m (register m p)) (termAt m (register m q)) → r ≡ cond b 1 0 →
+  tested : {b : Bool} {r : ℕ} (o : Option Relation) → relationOf (u .rule) ≡ o → b ≡ holds o (termAt m (register m p)) (termAt m (register m q)) → r ≡ cond b 1 0 →
       r ≡ cond (signals (values m) (testAt P)) 1 0
   unfolding signals
   tested {b} o j v k =
       let t : signals (values m) (testAt P) ≡ b = cc (value-at m _ (w .left), value-at m _ (w .right)) in
       k ∙ rw t
 
-  module _ {l : RelationGiven} (j : relationOf (testAt P .letter) ≡ some (relationIs l)) where
-    asks : {v : RelationGiven} → l ≡ v → relationOf (u .letter) ≡ some (relationIs v)
+  module _ {l : RelationGiven} (j : relationOf (testAt P .rule) ≡ some (relationIs l)) where
+    asks : {v : RelationGiven} → l ≡ v → relationOf (u .rule) ≡ some (relationIs v)
     asks k = rw z (j ∙ ap (λ v. some (relationIs v)) k)
 
     pub signal-equal : {r : ℕ} → l ≡ Equal → r ≡ cond (eqb (getD (m .registers) p 0) (getD (m .registers) q 0)) 1 0 → r ≡ cond (signals (values m) (testAt P)) 1 0

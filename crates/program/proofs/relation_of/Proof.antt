@@ -1,6 +1,6 @@
 -- `relation_of` mirrors the table of tests.
 use borrow.Author.Tests.{ne-eqb}
-use Rattle.program.specs.Tests.{relationOf}
+use Rattle.program.specs.Program.{relationOf}
 use Rattle.program.proofs.relation_of.Statement.{statement}
 use Rattle.program.proofs.relation_of.Tie as tie
 

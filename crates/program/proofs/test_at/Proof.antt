@@ -1,5 +1,5 @@
 -- `test_at` reads the last three bytes.
-use Rattle.program.specs.Program.{testAt}
+use Rattle.program.specs.Program.{instructionAt}
 use borrow.Author.Needs.{needs}
 use Rattle.program.proofs.test_at.Statement.{statement}
 use Rattle.program.proofs.test_at.Tie as tie
@@ -32,7 +32,7 @@ byte-requires-4 : tie.Need-byte-requires-4
 byte-requires-4 c κs = search needs
 
 returns : tie.Need-returns
-unfolding testAt
+unfolding instructionAt
 returns c = cc
 
 pub test-at-spec : {M : Type 1} → statement M

@@ -11,7 +11,7 @@ use Rattle.base.specs.Lists.{any}
 use Rattle.base.proofs.First.{passed-not-any}
 use Rattle.base.specs.Lists.{byte}
 use Rattle.submission.specs.Record.{entries}
-use Rattle.program.specs.Program.{Instruction, Test, Program, instructionBytes, bytesOf, programLength, instructionAt, testAt, badInstruction, badTest, badProgram}
+use Rattle.program.specs.Program.{Instruction, Program, instructionBytes, bytesOf, programLength, instructionAt, testAt, badInstruction, badTest, badProgram}
 
 -- three bytes an instruction
 pub bytes-length : (is : List Instruction) → length (instructionBytes is) ≡ 3 * length is
@@ -26,18 +26,9 @@ bytes-append (i ∷ is) js = rw (bytes-append is js)
 
 pub program-length : (p : Program) → length (bytesOf p) ≡ programLength (length (p .steps))
 unfolding bytesOf
-program-length p = simp length-append (omega (arith, bytes-length (p .steps)))
-
--- the test's bytes are those of one instruction more
-asInstruction : Test → Instruction
-asInstruction t = record { rule = t .letter; left = t .left; right = t .right }
-
-asTest : Instruction → Test
-asTest i = record { letter = i .rule; left = i .left; right = i .right }
-
-as-instructions : (p : Program) → bytesOf p ≡ length (p .steps) ∷ instructionBytes (p .steps ++ asInstruction (p .test) ∷ [])
-unfolding bytesOf instructionBytes asInstruction
-as-instructions p = rw (bytes-append (p .steps) (asInstruction (p .test) ∷ []))
+program-length p =
+    let e : length (p .steps ++ p .test ∷ []) ≡ length (p .steps) + 1 = simp length-append (omega arith) in
+    omega (arith, e, bytes-length (p .steps ++ p .test ∷ []))
 
 read-later : (x a b : ℕ) (l : List ℕ) (i : ℕ) → instructionAt (x ∷ a ∷ b ∷ l) (suc i) ≡ instructionAt l i
 unfolding instructionAt
@@ -60,17 +51,21 @@ module _ (p : Program) where
   byte-count = refl
 
   pub instruction-back : (d : Instruction) (i : ℕ) → i < length (p .steps) → instructionAt (bytesOf p) i ≡ getD (p .steps) i d
+  unfolding bytesOf
   instruction-back d i l =
-      rw (as-instructions p, read-at (length (p .steps)) (p .steps ++ asInstruction (p .test) ∷ []) d i (simp length-append (omega arith)))
-      (List·getD-append (p .steps) (asInstruction (p .test) ∷ []) d i l)
+      rw (read-at (length (p .steps)) (p .steps ++ p .test ∷ []) d i (simp length-append (omega arith)))
+      (List·getD-append (p .steps) (p .test ∷ []) d i l)
+
+  test-read : instructionAt (bytesOf p) (length (p .steps)) ≡ p .test
+  unfolding bytesOf
+  test-read =
+      let is = p .steps ++ p .test ∷ [] in
+      let d = p .test in
+      let l : length (p .steps) < length is = simp length-append (omega arith) in
+      read-at (length (p .steps)) is d (length (p .steps)) l ∙ getD-append-seam (p .steps) d [] d
 
   pub test-back : testAt (bytesOf p) ≡ p .test
-  unfolding testAt instructionAt asTest asInstruction
-  test-back =
-      let is = p .steps ++ asInstruction (p .test) ∷ [] in
-      let d = asInstruction (p .test) in
-      let l : length (p .steps) < length is = simp length-append (omega arith) in
-      ap asTest (rw (as-instructions p) (read-at (length (p .steps)) is d (length (p .steps)) l) ∙ getD-append-seam (p .steps) d [] d)
+  test-back = ap (instructionAt (bytesOf p)) byte-count ∙ test-read
 
   -- check 13 passes a program whose instructions and test are good
   pub program-passes : (s : List ℕ) (d : Instruction) → length (p .steps) ≤ 128 →
@@ -81,4 +76,4 @@ module _ (p : Program) where
       let n = length (p .steps) in
       let none : any (λ i. badInstruction (entries s + 1 + i) (instructionAt (bytesOf p) i)) n ≡ false =
       passed-not-any {i = n} (record { within = omega arith; failed = λ i l. ap (badInstruction (entries s + 1 + i)) (instruction-back d i l) ∙ each i l }) (omega arith) in
-      rw (byte-count, program-length p, none, test-back, test, le-ltb 128 n few, eq-eqb (programLength n) (programLength n) refl, ne-eqb (programLength n) 0 (omega arith))
+      rw (byte-count, program-length p, none, test-read, test, le-ltb 128 n few, eq-eqb (programLength n) (programLength n) refl, ne-eqb (programLength n) 0 (omega arith))

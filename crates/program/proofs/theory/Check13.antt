@@ -21,8 +21,8 @@ use Rattle.term.specs.declared.Relation.{Relation as RelationGiven}
 use Rattle.program.specs.declared.Asked.{Asked}
 use Rattle.program.specs.declared.Asked.the-variants.{Asks, Nothing}
 use Rattle.program.specs.Code.{relationIn, asked}
-use Rattle.program.specs.Tests.{rowOf, relationOf}
-use Rattle.program.specs.Program.{Instruction, Test, programLength, instructionAt, testAt, operand, goodRegisters, badInstruction, badFor, badTest, badProgram}
+use Rattle.program.specs.Program.{rowOf, relationOf}
+use Rattle.program.specs.Program.{Instruction, programLength, instructionAt, testAt, operand, goodRegisters, badInstruction, badFor, badTest, badProgram}
 
 -- ---- registers, where n are written
 module _ {n x a : ℕ} (b : ℕ) (one : Bool) (e : x ≡ a) where
@@ -45,10 +45,10 @@ module _ (n : ℕ) (i : Instruction) where
   unfolding badInstruction
   bad-operands e t f g = rw (g, ← e, t, f)
 
-module _ (n : ℕ) (t : Test) {o : Asked} (e : relationIn o ≡ relationOf (t .letter)) where
+module _ (n : ℕ) (t : Instruction) {o : Asked} (e : relationIn o ≡ relationOf (t .rule)) where
   pub bad-letter : o ≡ Nothing → true ≡ badTest n t
   unfolding badTest
-  bad-letter h = let z : relationOf (t .letter) ≡ none = sym e ∙ ap relationIn h in rw z
+  bad-letter h = let z : relationOf (t .rule) ≡ none = sym e ∙ ap relationIn h in rw z
 
   pub bad-registers : {x : RelationGiven} {k : ℕ} {r : Bool} → o ≡ Asks x → k ≡ rowOf (relationIs x) .registers → r ≡ goodRegisters n (eqb k 1) (t .left) (t .right) → not r ≡ badTest n t
   unfolding badTest
@@ -91,7 +91,7 @@ module _ (s P : List ℕ) where
         unfolding badProgram
         bad-steps e t = simp (← h, ← e, t, or-true)
 
-        pub program-test : {b r : Bool} {t : Test} {u w′ : ℕ} → (length P ≡ 0 → ⊥) → n ≤ 128 → length P ≡ 3 * w + 4 →
+        pub program-test : {b r : Bool} {t : Instruction} {u w′ : ℕ} → (length P ≡ 0 → ⊥) → n ≤ 128 → length P ≡ 3 * w + 4 →
             b ≡ any (badAt k P) (byte P 0) → b ≡ false → u ≡ k → w′ ≡ n → t ≡ testAt P → r ≡ badTest (u + 1 + w′) t → r ≡ badProgram s P
         unfolding badProgram
         program-test f g l e a q y z o = o ∙ rw (← z, q, y, ← v, ← h, ne-eqb _ _ f, ← e, a, ← c, ← v, le-ltb 128 w (omega arith), eq-eqb _ _ l)
@@ -118,11 +118,11 @@ good-instruction n i e =
     go false l r = r
 
 -- a good test asks for a relation, and names registers that are written
-pub good-test : (n : ℕ) (t : Test) → badTest n t ≡ false → (r : Relation) × (relationOf (t .letter) ≡ some r) × (t .left < n) × (t .right < n)
+pub good-test : (n : ℕ) (t : Instruction) → badTest n t ≡ false → (r : Relation) × (relationOf (t .rule) ≡ some r) × (t .left < n) × (t .right < n)
 unfolding badTest
-good-test n t e = go (relationOf (t .letter)) refl e
+good-test n t e = go (relationOf (t .rule)) refl e
   where
-    go : (o : Option Relation) → relationOf (t .letter) ≡ o → badFor n t o ≡ false → (r : Relation) × (relationOf (t .letter) ≡ some r) × (t .left < n) × (t .right < n)
+    go : (o : Option Relation) → relationOf (t .rule) ≡ o → badFor n t o ≡ false → (r : Relation) × (relationOf (t .rule) ≡ some r) × (t .left < n) × (t .right < n)
     go none f e = absurd (true≢false e)
     go (some r) f e = let (a, b) = good-registers n (eqb (rowOf r .registers) 1) (t .left) (t .right) (not-not-false _ .0 e) in (r, f, a, b)
 
@@ -148,17 +148,17 @@ module _ (s P : List ℕ) {b : Bool} (e : b ≡ badProgram s P) where
   pub nothing-asked : b ≡ true → none ≡ asked s P
   nothing-asked t = rw (← e, t)
 
-  pub relation-asked : (o : Asked) {t : Test} → b ≡ false → t ≡ testAt P → relationIn o ≡ relationOf (t .letter) → relationIn o ≡ asked s P
+  pub relation-asked : (o : Asked) {t : Instruction} → b ≡ false → t ≡ testAt P → relationIn o ≡ relationOf (t .rule) → relationIn o ≡ asked s P
   relation-asked o h g f = f ∙ rw (← e, h, g)
 
 module _ (s P : List ℕ) {o : Asked} (e : relationIn o ≡ asked s P) where
   by-case : (b : Bool) → badProgram s P ≡ b → (o ≡ Nothing → badProgram s P ≡ true) ×
-      ((x : RelationGiven) → o ≡ Asks x → (badProgram s P ≡ false) × (relationOf (testAt P .letter) ≡ some (relationIs x)))
+      ((x : RelationGiven) → o ≡ Asks x → (badProgram s P ≡ false) × (relationOf (testAt P .rule) ≡ some (relationIs x)))
   by-case true f = (λ h. f, λ x h. let z : none ≡ some (relationIs x) = rw f at (sym e ∙ ap relationIn h) in absurd (let o : _≡_ {A = ℕ} 0 1 = cc in omega arith))
   by-case false f = (
     λ h.
         let (r, g, a, b) = good-test _ _ (good s P f .test) in
-        let z : relationOf (testAt P .letter) ≡ none = rw f at (sym e ∙ ap relationIn h) in
+        let z : relationOf (testAt P .rule) ≡ none = rw f at (sym e ∙ ap relationIn h) in
         absurd (let o : _≡_ {A = ℕ} 0 1 = cc in omega arith),
     λ x h. (f, rw f at (sym e ∙ ap relationIn h)),
   )
@@ -169,5 +169,5 @@ module _ (s P : List ℕ) {o : Asked} (e : relationIn o ≡ asked s P) where
   pub program-good : {x : RelationGiven} → o ≡ Asks x → badProgram s P ≡ false
   program-good h = by-case (badProgram s P) refl .1 _ h .0
 
-  pub program-asks : {x : RelationGiven} → o ≡ Asks x → relationOf (testAt P .letter) ≡ some (relationIs x)
+  pub program-asks : {x : RelationGiven} → o ≡ Asks x → relationOf (testAt P .rule) ≡ some (relationIs x)
   program-asks h = by-case (badProgram s P) refl .1 _ h .1

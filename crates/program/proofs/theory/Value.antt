@@ -11,7 +11,7 @@ use Rattle.base.proofs.Grow.{length-listed, grow-alike}
 use Rattle.program.specs.declared.Instruction.{Instruction as InstructionRead}
 use Rattle.program.specs.declared.Test.{Test as TestRead}
 use Rattle.program.specs.declared.Program.{Program as ProgramRead}
-use Rattle.program.specs.Program.{Instruction, Test, Program}
+use Rattle.program.specs.Program.{Instruction, Program}
 use Rattle.program.specs.Code.{instructionIn, testIn, heldAt, programIn}
 
 abbrev blank : InstructionRead
@@ -34,7 +34,7 @@ holds-more {f} {i} {k} {xs} {x} w l e q = rw q (record {
 })
 
 -- the value with n of them and a test
-pub holds-all : {f : ℕ → Instruction} {n : ℕ} {xs : List InstructionRead} {t : TestRead} {u : Test} → Holds f n xs → testIn t ≡ u →
+pub holds-all : {f : ℕ → Instruction} {n : ℕ} {xs : List InstructionRead} {t : TestRead} {u : Instruction} → Holds f n xs → testIn t ≡ u →
     programIn (record { instructions = xs; count = n; test = t }) ≡ record { steps = listed f n; test = u }
 holds-all {f} {n} {xs} w e = rw (e, grow-alike [] (λ l k. instructionIn (getD xs k blank)) (λ l k. f k) n (λ k l b. w .is k b))
 

@@ -13,7 +13,7 @@ use Rattle.base.proofs.Overwrite.{overwrite}
 use Rattle.base.proofs.Parts.{rest-lent, rest-back}
 use Rattle.program.specs.declared.Program.{Program as ProgramRead}
 use Rattle.program.specs.Program.{Instruction, instructionBytes, bytesOf, programLength}
-use Rattle.program.specs.Code.{heldAt, programIn}
+use Rattle.program.specs.Code.{heldAt, programIn, testIn}
 use Rattle.program.proofs.theory.Bytes.{bytes-length, bytes-append}
 
 -- three stores in a row
@@ -70,11 +70,11 @@ module _ (v : ProgramRead) {p part p′ : List ℕ} {a : ℕ} where
       part ≡ code v (v .count) ++ drop (3 * v .count) (midOf 1 (length p - 1) p) → a ≡ v .count →
       p′ ≡ sets (putMid 1 (length p - 1) p part) (3 * a + 1) (v .test .letter ∷ v .test .left ∷ v .test .right ∷ []) →
       p′ ≡ bytesOf (programIn v) ++ drop (programLength (v .count)) page
-  unfolding bytesOf
+  unfolding bytesOf instructionBytes
   program-written [] l g h q k = absurd (omega arith)
   program-written (x ∷ xs) l g h q k =
       let m = v .count in
       let vs = v .test .letter ∷ v .test .left ∷ v .test .right ∷ [] in
       let y = lent-back xs (code v m) part m x (3 * m) (rw g at h) in
       let z : 3 * m + 1 + 3 ≡ programLength m = omega arith in
-      k ∙ rw (q, g, y, overwrite (m ∷ code v m) (x ∷ xs) vs (3 * m + 1) (omega (arith, code-length v m)) (omega arith), z, length-listed (heldAt v) m)
+      k ∙ rw (q, g, y, overwrite (m ∷ code v m) (x ∷ xs) vs (3 * m + 1) (omega (arith, code-length v m)) (omega arith), z, length-listed (heldAt v) m, bytes-append (listed (heldAt v) m) (testIn (v .test) ∷ []))

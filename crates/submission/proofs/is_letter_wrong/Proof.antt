@@ -3,7 +3,7 @@ use Prim.Native.Nat.{_-_}
 use Rattle.base.proofs.Scan.{scan}
 use Rattle.submission.proofs.ContentsTests.{letter-wrong, letter-right}
 use Rattle.base.proofs.First.{Passed}
-use Rattle.submission.specs.Contents.{wrongLetter}
+use Rattle.submission.specs.Record.{wrongLetter}
 use Rattle.submission.proofs.is_letter_wrong.Statement.{statement}
 use Rattle.submission.proofs.is_letter_wrong.Tie as tie
 

@@ -1,7 +1,7 @@
 -- `is_start_wrong` meets its contract: the four starts, one after the other.
 use Rattle.base.proofs.TestChains.{chain, apart-from, apart-eqb, same-eqb, told-eqb, told-not}
 use Rattle.base.proofs.BoolLaws.{not-of-true, not-of-false}
-use Rattle.submission.specs.Contents.{start}
+use Rattle.submission.specs.Record.{start}
 use Rattle.submission.proofs.ContentsTests.{any-four}
 use borrow.Author.Needs.{needs}
 use Rattle.submission.proofs.is_start_wrong.Statement.{statement}

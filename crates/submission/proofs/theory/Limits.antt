@@ -4,7 +4,7 @@ use mathlib.Core.List.{List, [], _∷_, map}
 use Prim.Native.Nat.{ℕ}
 use Rattle.base.specs.Lists.{first, firstFrom}
 use Rattle.base.specs.Answer.{Check, passes, fails, failsAt}
-use Rattle.submission.specs.Contents.{badCount}
+use Rattle.submission.specs.Record.{badCount}
 
 -- the four counts, in the contents' places, and what check 2 says
 pub record Limit : Type 0 where

@@ -20,7 +20,7 @@ use Rattle.term.specs.Code.{Below, Table}
 use Rattle.term.proofs.Table.{decode-inj, decoded-reads}
 use Rattle.base.specs.Answer.{passes, failsIf, failsAt}
 use Rattle.base.specs.Lists.{Bytes, first}
-use Rattle.submission.specs.Contents.{badCount, badContents}
+use Rattle.submission.specs.Record.{badCount, badContents}
 use Rattle.submission.specs.{Record.terms, Record.entries, Record.steps, Record.kindAt, Record.xAt, Record.yAt, Record.nameAt, Record.entryAt, Record.guess, Record.verifying, Record.wayAt, Record.companion, Record.recordOf, Record.recordAt, Record.term, Computed.areInverse}
 use Rattle.submission.specs.Way.{Way, another-step, at-start, inverse-key, wayOf, Range, step-number, term-number, zero-only, row, inRange, claimFits}
 use Rattle.submission.specs.Check.{badTerm, badKnowledge, goodClaim, checks1to4, checks1to5}

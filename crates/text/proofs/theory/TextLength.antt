@@ -14,8 +14,8 @@ use Rattle.term.proofs.Rule.{word-length}
 use Rattle.base.specs.Answer.{done}
 use Rattle.base.specs.Lists.{byte, Bytes}
 use Rattle.term.specs.Term.{Relation, equal, inverses}
-use Rattle.program.specs.Tests.{relationOf, relationWord}
-use Rattle.program.specs.Program.{Instruction, Test, instructionAt, testAt}
+use Rattle.program.specs.Program.{relationOf, relationWord}
+use Rattle.program.specs.Program.{Instruction, instructionAt, testAt}
 use Rattle.text.specs.Text.{digits, registerText, secondText, stepLine, stepLines, testLine, refusedText, answerText}
 use Rattle.text.specs.Puts.{Puts}
 use Rattle.text.proofs.theory.PutLaws.{puts-whole}
@@ -53,9 +53,9 @@ unfolding stepLine
 step-length r i h f s =
     simp length-append (omega (arith, register-length r h, word-length (i .rule), register-length (i .left) f, second-length (i .rule) (i .right) s))
 
-test-length : (t : Test) → t .left < 1000 → t .right < 1000 → length (testLine t) ≤ 24
+test-length : (t : Instruction) → t .left < 1000 → t .right < 1000 → length (testLine t) ≤ 24
 unfolding testLine
-test-length t f s = simp length-append (omega (arith, register-length (t .left) f, relation-length (relationOf (t .letter)), register-length (t .right) s))
+test-length t f s = simp length-append (omega (arith, register-length (t .left) f, relation-length (relationOf (t .rule)), register-length (t .right) s))
 
 module _ (page : List ℕ) (bytes : Bytes page) where
   steps-length : (r n : ℕ) → r + n ≤ 1000 → length (stepLines r page n) ≤ 22 * n
@@ -66,7 +66,7 @@ module _ (page : List ℕ) (bytes : Bytes page) where
       (omega (arith, steps-length r n (omega arith), step-length (r + n) (instructionAt page n) (omega arith) (omega (arith, bytes (3 * n + 2))) (omega (arith, bytes (3 * n + 3)))))
 
   accepted-length : (known n : ℕ) → known < 256 → n < 256 → length (answerText known (done n) page) ≤ 22 * n + 37
-  unfolding answerText testAt
+  unfolding answerText instructionAt
   accepted-length known n h k =
       simp length-append
       (omega (arith, digits-length 2 (suc n) n (omega arith), steps-length (known + 1) n (omega arith), test-length (testAt page) (omega (arith, bytes (3 * byte page 0 + 2))) (omega (arith, bytes (3 * byte page 0 + 3)))))
