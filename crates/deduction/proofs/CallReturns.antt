@@ -1,7 +1,7 @@
--- The answers: the returns of `are_deducible`, `is_deducible` and `refused`, and those of `deducible`: a check's refusal, no such term,
+-- The answers: the returns of `are_built`, `are_deducible` and `is_deducible`, and those of `deducible`: a check's refusal, no such term,
 -- yes and no.
 use mathlib.Core.Path.{_≡_, refl, sym, ap, ap₂, _∙_}
-use mathlib.Core.Bool.{Bool, true, false, _&&_}
+use mathlib.Core.Bool.{Bool, true, false, _&&_, and-false}
 use mathlib.Core.List.{List}
 use Prim.Native.Nat.{ℕ, _<_, _≤_}
 use native.Mathlib.Omega.{arith}
@@ -19,7 +19,7 @@ use Rattle.submission.specs.Check.{checks1to4}
 use Rattle.base.specs.declared.Answer.{Answer}
 use Rattle.deduction.specs.Computed.{built, entryMarks, isDeducible}
 use Rattle.deduction.specs.Deduce.{deducibleAnswer}
-use Rattle.deduction.specs.Code.{TableRead, marksOf, SameMarks, code, Decided, Exact}
+use Rattle.deduction.specs.Code.{TableRead, marksOf, SameMarks, code, Decided, Unbuilt, Exact}
 use Rattle.deduction.proofs.theory.Exactness.{same-start}
 use Rattle.deduction.proofs.MarkArrays.{facts}
 
@@ -28,23 +28,34 @@ code-says : (b : Bool) → eqb (code b) 1 ≡ b
 code-says true = refl
 code-says false = refl
 
-module _ {s start known : List ℕ} (x : Exact s start known) where
-  said : {t k : ℕ} {l l′ : List ℕ} → t < terms s → Decided s known t l l′ → k ≡ t → eqb (getD l′ k 0) 1 ≡ isDeducible s (marksOf start) t
-  said {t} {k} {l} {l′} b d e = rw (e, d .here, code-says (built s (marksOf known) t)) (x .is t b)
+module _ {s known : List ℕ} where
+  said-built : {t k : ℕ} {l l′ : List ℕ} → Decided s known t l l′ → k ≡ t → eqb (getD l′ k 0) 1 ≡ built s (marksOf known) t
+  said-built {t} d e = rw (e, d .here, code-says (built s (marksOf known) t))
 
-  module _ {p k : ℕ} {l l′ : List ℕ} (b : p < terms s) (d : Decided s known p l l′) (e : k ≡ p) where
-    pub first-not : (q : ℕ) → (getD l′ k 0 ≡ 1 → ⊥) → false ≡ (isDeducible s (marksOf start) p && isDeducible s (marksOf start) q)
-    first-not q f = let g : isDeducible s (marksOf start) p ≡ false = sym (said b d e) ∙ ne-eqb _ 1 f in rw g
+  -- a term that is missing
+  pub missing-first : {p : ℕ} {b : Bool} (q : ℕ) → Unbuilt s known p b → b ≡ true → false ≡ (built s (marksOf known) p && built s (marksOf known) q)
+  missing-first q u e = rw (u .no e)
 
-    pub first-yes : {q j : ℕ} {m m′ : List ℕ} → getD l′ k 0 ≡ 1 → q < terms s → Decided s known q m m′ → j ≡ q →
-        eqb (getD m′ j 0) 1 ≡ (isDeducible s (marksOf start) p && isDeducible s (marksOf start) q)
-    first-yes f c g h = let i : isDeducible s (marksOf start) p ≡ true = sym (said b d e) ∙ eq-eqb _ 1 f in rw i (said c g h)
+  pub missing-second : {q : ℕ} {b : Bool} (p : ℕ) → Unbuilt s known q b → b ≡ true → false ≡ (built s (marksOf known) p && built s (marksOf known) q)
+  missing-second p u e = rw (u .no e, and-false)
+
+  module _ {p k : ℕ} {l l′ : List ℕ} (d : Decided s known p l l′) (e : k ≡ p) where
+    pub first-not : (q : ℕ) → (getD l′ k 0 ≡ 1 → ⊥) → false ≡ (built s (marksOf known) p && built s (marksOf known) q)
+    first-not q f = let g : built s (marksOf known) p ≡ false = sym (said-built d e) ∙ ne-eqb _ 1 f in rw g
+
+    pub first-yes : {q j : ℕ} {m m′ : List ℕ} → getD l′ k 0 ≡ 1 → Decided s known q m m′ → j ≡ q →
+        eqb (getD m′ j 0) 1 ≡ (built s (marksOf known) p && built s (marksOf known) q)
+    first-yes f g h = let i : built s (marksOf known) p ≡ true = sym (said-built d e) ∙ eq-eqb _ 1 f in rw i (said-built g h)
+
+pub both-deducible : {s start known : List ℕ} {p q : ℕ} {r : Bool} → Exact s start known → p < terms s → q < terms s →
+    r ≡ (built s (marksOf known) p && built s (marksOf known) q) → r ≡ (isDeducible s (marksOf start) p && isDeducible s (marksOf start) q)
+both-deducible {p = p} {q = q} x b c e = e ∙ ap₂ _&&_ (x .is p b) (x .is q c)
 
 -- ---- from the knowledge
 module _ {s : List ℕ} (start : List ℕ) (v : TableRead s) (m : SameMarks s (marksOf start) (entryMarks s)) where
   pub said-known : {known : List ℕ} {t k : ℕ} {l l′ : List ℕ} → Exact s start known → t < terms s → Decided s known t l l′ → k ≡ t →
       eqb (getD l′ k 0) 1 ≡ isDeducible s (entryMarks s) t
-  said-known {t = t} x b d e = said x b d e ∙ same-start (facts v) m t b
+  said-known {t = t} x b d e = said-built d e ∙ x .is t b ∙ same-start (facts v) m t b
 
   pub both-known : {p q : ℕ} {r : Bool} → p < terms s → q < terms s → r ≡ (isDeducible s (marksOf start) p && isDeducible s (marksOf start) q) →
       r ≡ (isDeducible s (entryMarks s) p && isDeducible s (entryMarks s) q)

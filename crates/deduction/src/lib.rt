@@ -13,7 +13,7 @@ ghost use lib.ListN.{length};
 ghost use Rattle.base.specs.Lists.{first};
 ghost use Rattle.submission.specs.Record.{terms, recordAt};
 ghost use Rattle.submission.specs.Computed.{areInverse};
-ghost use Rattle.deduction.specs.Computed.{entryMarks, isDeducible};
+ghost use Rattle.deduction.specs.Computed.{built, entryMarks, isDeducible};
 ghost use Rattle.deduction.specs.Calls.{Deduced};
 ghost use Rattle.deduction.specs.Code.{TableRead, marksOf, SameMarks, orNone, Inverses, partsOf, Memo, Decided, Unbuilt};
 ghost use Rattle.deduction.specs.Code.{OfTerms, OpensAs, opensBy, Settled, Exact, withMark, Swept, TakenApart};
@@ -309,7 +309,29 @@ fn saturated(s: &[u8], start: Marks) -> Marks
     }
 }
 
-// Whether the terms p and q are both deducible from the terms that `start` marks. The terms are taken apart once, and each is decided once.
+// Whether the terms p and q can both be built over the marks `known`. Each is decided once: an atom that is missing at once, with no memo.
+fn are_built(s: &[u8], known: &[u8; 256], p: u8, q: u8) -> bool
+    requires { ⌜ TableRead (now s) ⌝ }
+    requires { ⌜ p < terms (now s) ⌝ }
+    requires { ⌜ q < terms (now s) ⌝ }
+    ensures { λ r. ⌜ r ≡ (built (now (s .entry)) (marksOf (now (known .entry))) p && built (now (s .entry)) (marksOf (now (known .entry))) q) ⌝ }
+{
+    if is_missing(s, known, p) {
+        return false;
+    }
+    if is_missing(s, known, q) {
+        return false;
+    }
+    let first = build(s, known, Marks { state: [0u8; 256] }, p);
+    let answer = first.state[base::wide(p)];
+    if answer != 1 {
+        return false;
+    }
+    let both = build(s, known, first, q);
+    both.state[base::wide(q)] == 1
+}
+
+// Whether the terms p and q are both deducible from the terms that `start` marks. The terms are taken apart once.
 pub fn are_deducible(s: &[u8], start: Marks, p: u8, q: u8) -> bool
     requires { ⌜ TableRead (now s) ⌝ }
     requires { ⌜ p < terms (now s) ⌝ }
@@ -317,13 +339,7 @@ pub fn are_deducible(s: &[u8], start: Marks, p: u8, q: u8) -> bool
     ensures { λ r. ⌜ r ≡ (isDeducible (now (s .entry)) (marksOf (start .state)) p && isDeducible (now (s .entry)) (marksOf (start .state)) q) ⌝ }
 {
     let known = saturated(s, start);
-    let first = build(s, &known.state, Marks { state: [0u8; 256] }, p);
-    let answer = first.state[base::wide(p)];
-    if answer != 1 {
-        return false;
-    }
-    let both = build(s, &known.state, first, q);
-    both.state[base::wide(q)] == 1
+    are_built(s, &known.state, p, q)
 }
 
 // Whether term t is deducible from the knowledge.

@@ -1,22 +1,29 @@
 -- Check 3, one test at a time: the shape of a record, read off its kind and its parts, and a record that is repeated.
-use mathlib.Core.Path.{_≡_, refl, sym, ap, _∙_, subst}
-use mathlib.Core.Bool.{Bool, true, false, _&&_, true≢false, false≢true, and-false, and-true}
+use mathlib.Core.Path.{_≡_, refl, sym, ap, _∙_}
+use mathlib.Core.Bool.{Bool, true, false, _&&_, true≢false, false≢true, and-false}
 use mathlib.Core.List.{List}
 use mathlib.Core.Option.{Option, none, some}
-use Prim.Native.Nat.{ℕ, _+_, _<_, _≤_}
+use mathlib.Core.Logic.{_⊎_, inl, inr, ⊎-elim, by-cases}
+use Prim.Native.Nat.{ℕ, _+_, _%_, _<_, _≤_}
+use native.Mathlib.Nat.{le-refl, eq-or-lt-of-le}
+use native.Mathlib.Decide.{ℕ-discrete}
 use native.Mathlib.Omega.{arith}
 use lib.Dec.{eqb, ltb}
-use lib.ListN.{length, getD, set, length-set}
+use lib.ListN.{length, getD, set, replicate, length-set, length-replicate, getD-replicate}
 use lib.Seq.{getD-set-same, getD-set-other}
 use borrow.Author.Count.{below-more}
 use borrow.Author.Tests.{eq-eqb, ne-eqb, lt-ltb, le-ltb}
+use Rattle.base.specs.{Lists.any, Code.isSome}
+use Rattle.base.proofs.Order.{lt-or-ge}
+use Rattle.base.proofs.First.{first-found}
+use Rattle.base.proofs.Scan.{false-any}
 use Rattle.term.specs.Term.{Shape, atomic, compound, takes, isAtomic}
 use Rattle.term.specs.Kind.{shapeOf}
 use Rattle.term.specs.Code.{isUnary, secondOf}
 use Rattle.submission.specs.declared.Term.{Term}
-use Rattle.submission.specs.Record.{terms, kindAt, xAt, yAt}
+use Rattle.submission.specs.Record.{kindAt, xAt, yAt}
 use Rattle.submission.specs.Check.{shapeFits, sameRecord}
-use Rattle.submission.specs.Code.{IsTerm, LastBytes}
+use Rattle.submission.specs.Code.{IsTerm, Latest, Chained}
 
 -- ---- the shape of a record
 module _ (s : List ℕ) (i : ℕ) where
@@ -76,37 +83,108 @@ module _ {s : List ℕ} {i : ℕ} {t : Term} (p : IsTerm s i t) {b : Bool} (e : 
         k ∙ rw (q .kind, p .kind, p .y) (two s i (shapeOf (kindAt s i)) (atomic-is false h) (unary-is false g) x-earlier (rw (← (p .y)) (lt-ltb _ _ l)))
 
 -- ---- a repeated record
+module _ {s : List ℕ} {j : ℕ} {u : Term} (t : Term) (q : IsTerm s j u) where
+  pub x-apart : (u .x ≡ t .x → ⊥) → false ≡ (eqb (kindAt s j) (t .kind) && (eqb (xAt s j) (t .x) && eqb (yAt s j) (t .y)))
+  x-apart d = rw (← (q .x), ne-eqb _ _ d, and-false)
+
+  pub kind-apart : (u .kind ≡ t .kind → ⊥) → false ≡ (eqb (kindAt s j) (t .kind) && (eqb (xAt s j) (t .x) && eqb (yAt s j) (t .y)))
+  kind-apart d = rw (← (q .kind), ne-eqb _ _ d)
+
+  pub y-told : u .x ≡ t .x → u .kind ≡ t .kind → eqb (u .y) (t .y) ≡ (eqb (kindAt s j) (t .kind) && (eqb (xAt s j) (t .x) && eqb (yAt s j) (t .y)))
+  y-told e f = rw (← (q .kind), ← (q .x), eq-eqb _ _ e, eq-eqb _ _ f, q .y)
+
 pub same-record : {s : List ℕ} {i : ℕ} {t : Term} {b r : Bool} (j : ℕ) → IsTerm s i t → b ≡ (eqb (kindAt s j) (t .kind) && (eqb (xAt s j) (t .x) && eqb (yAt s j) (t .y))) → b ≡ r → sameRecord s i j ≡ r
 same-record j p e h = rw (← (p .kind), ← (p .x), ← (p .y)) (sym e ∙ h)
 
--- the last bytes, one more and all
-pub lasts-none : {s : List ℕ} (l : List ℕ) → length l ≡ 256 → LastBytes s 0 l
-lasts-none l e = record { within = omega arith; long = e; is = λ k b. absurd (omega arith) }
+-- ---- the chains of records with the same last byte
+module _ {s : List ℕ} {i y : ℕ} where
+  -- one record more, with the last byte y or with another one
+  latest-here : i < 255 → yAt s i ≡ y → Latest s (i + 1) y i
+  latest-here l e = record { is = inr (omega arith, e); last = λ k u v w. ⊎-elim (λ x. omega arith) (λ x. omega arith) v }
 
-pub lasts-more : {s l : List ℕ} {i w n : ℕ} {t : Term} → LastBytes s i l → i < n → n ≡ terms s → w ≡ i → IsTerm s i t → w < 256 → LastBytes s (i + 1) (set l w (t .y))
-lasts-more {s} {l} {i} {w} {n} {t} p b e f g h =
-    let q : w < length l = omega (arith, p .long) in
+  latest-kept : {b : ℕ} → Latest s i y b → (yAt s i ≡ y → ⊥) → Latest s (i + 1) y b
+  latest-kept {b} p d =
+      record {
+        is = ⊎-elim (λ x. inl x) (λ x. let l = x .0 in inr (omega arith, x .1)) (p .is);
+        last = below-more (λ k. (b ≡ 255) ⊎ (b < k) → yAt s k ≡ y → ⊥) i (p .last) (λ u. d);
+      }
+
+-- the loop over the terms: the chains of the first i, and for each byte the latest of them
+pub record Chaining (s : List ℕ) (i : ℕ) (before latest : List ℕ) : Type 0 where
+  pub chained : Chained s i before
+  pub long : length latest ≡ 256
+  pub is : (y : ℕ) → y < 256 → Latest s i y (getD latest y 0)
+
+pub chaining-none : {s : List ℕ} → Chaining s 0 (replicate 256 255) (replicate 256 255)
+chaining-none {s} =
     record {
-      within = omega arith;
-      long = length-set l w (t .y) ∙ p .long;
-      is = below-more (λ k. getD (set l w (t .y)) k 0 ≡ yAt s k) i
-          (λ k c. getD-set-other l w k (t .y) 0 (λ x. let y : k ≡ i = x ∙ f in omega arith) ∙ p .is k c)
-          (rw (← f) (getD-set-same l w (t .y) 0 q ∙ g .y ∙ ap (yAt s) (sym f)));
+      chained = record { long = length-replicate {A = ℕ} 256 255; is = λ k b. absurd (omega arith) };
+      long = length-replicate {A = ℕ} 256 255;
+      is = λ y l. record { is = inl (getD-replicate {A = ℕ} 256 y 255 0 l); last = λ k u. absurd (omega arith) };
     }
 
-pub lasts-all : {s l : List ℕ} {i n : ℕ} → LastBytes s i l → n ≤ i → n ≡ terms s → LastBytes s (terms s) l
-lasts-all {s} {l} {i} {n} p b e = let q : i ≡ terms s = omega (arith, p .within) in subst (λ k. LastBytes s k l) q p
+pub chaining-more : {s before latest : List ℕ} {i w v n : ℕ} {t : Term} → Chaining s i before latest → i < n → n < 256 → IsTerm s i t → v ≡ t .y → w ≡ i → v < 256 →
+    Chaining s (i + 1) (set before w (getD latest v 0)) (set latest v i)
+chaining-more {s} {before} {latest} {i} {w} {v} {n} {t} p l m q f g h =
+    let y : yAt s i ≡ v = sym (f ∙ q .y) in
+    let b : w < length before = omega (arith, p .chained .long) in
+    record {
+      chained = record {
+        long = length-set before w (getD latest v 0) ∙ p .chained .long;
+        is = below-more (λ k. Latest s k (yAt s k) (getD (set before w (getD latest v 0)) k 0)) i
+            (λ k c. rw (getD-set-other before w k (getD latest v 0) 0 (λ x. let z : k ≡ i = x ∙ g in omega arith)) (p .chained .is k c))
+            (rw (← g, getD-set-same before w (getD latest v 0) 0 b, g, y) (p .is v h));
+      };
+      long = length-set latest v i ∙ p .long;
+      is = λ a c. by-cases (ℕ-discrete a v)
+          (λ x. rw (x, getD-set-same latest v i 0 (omega (arith, p .long))) (latest-here (omega arith) y))
+          (λ x. rw (getD-set-other latest v a i 0 x) (latest-kept (p .is a c) (λ z. x (sym z ∙ y))));
+    }
 
--- the bytes of record j, the last one first
-module _ {s l : List ℕ} {j w : ℕ} (p : LastBytes s (terms s) l) (b : j < terms s) (e : w ≡ j) where
-  last-is : getD l w 0 ≡ yAt s j
-  last-is = ap (λ k. getD l k 0) e ∙ p .is j b
+-- the walk along a chain: no record from `past` on is record i, and j is the latest before it with the same last byte
+pub record Walk (s : List ℕ) (i j : ℕ) : Type 0 where
+  pub past : ℕ
+  pub within : past ≤ i
+  pub apart : (k : ℕ) → past ≤ k → k < i → sameRecord s i k ≡ false
+  pub next : Latest s past (yAt s i) j
 
-  pub last-apart : (t : Term) → (getD l w 0 ≡ t .y → ⊥) → false ≡ (eqb (kindAt s j) (t .kind) && (eqb (xAt s j) (t .x) && eqb (yAt s j) (t .y)))
-  last-apart t d = rw (← last-is, ne-eqb _ _ d, and-false, and-false)
+module _ {s : List ℕ} {i j : ℕ} (p : Walk s i j) where
+  -- a record that the walk has gone past
+  passed-by : (k : ℕ) → k < i → (j ≡ 255) ⊎ (j < k) → sameRecord s i k ≡ false
+  passed-by k l g =
+      ⊎-elim (λ b. rw (ne-eqb _ _ (p .next .last k b g), and-false, and-false)) (λ b. p .apart k b l) (lt-or-ge k (p .past))
 
-  pub last-same : {u : Term} (t : Term) → getD l w 0 ≡ t .y → IsTerm s j u → u .kind ≡ t .kind → eqb (u .x) (t .x) ≡ (eqb (kindAt s j) (t .kind) && (eqb (xAt s j) (t .x) && eqb (yAt s j) (t .y)))
-  last-same t d q k = rw (← last-is, eq-eqb _ _ d, ← (q .kind), eq-eqb _ _ k, ← (q .x), and-true)
+  pub walk-end : j ≡ 255 → false ≡ any (sameRecord s i) i
+  walk-end e = false-any (record { within = le-refl i; failed = λ k l. passed-by k l (inl e) }) (le-refl i)
 
-pub kind-apart : {s : List ℕ} {j : ℕ} {u : Term} (t : Term) → IsTerm s j u → (u .kind ≡ t .kind → ⊥) → false ≡ (eqb (kindAt s j) (t .kind) && (eqb (xAt s j) (t .x) && eqb (yAt s j) (t .y)))
-kind-apart t q d = rw (← (q .kind), ne-eqb _ _ d)
+  module _ (d : j ≡ 255 → ⊥) where
+    pub walk-below : j < i
+    walk-below = ⊎-elim (λ x. absurd (d x)) (λ x. let l = x .0 in omega (arith, p .within)) (p .next .is)
+
+    same-last : yAt s j ≡ yAt s i
+    same-last = ⊎-elim (λ x. absurd (d x)) (λ x. x .1) (p .next .is)
+
+    pub walk-hit : sameRecord s i j ≡ true → true ≡ any (sameRecord s i) i
+    unfolding any
+    walk-hit t = let (k, f, u, v) = first-found (sameRecord s i) i j walk-below t in sym (ap isSome f)
+
+module _ {s before : List ℕ} {i : ℕ} (c : Chained s (i + 1) before) where
+  pub walk-start : {w : ℕ} → w ≡ i → Walk s i (getD before w 0)
+  walk-start e = record { past = i; within = le-refl i; apart = λ k u v. absurd (omega arith); next = rw e (c .is i (omega arith)) }
+
+  module _ {j w : ℕ} (p : Walk s i j) (d : j ≡ 255 → ⊥) (e : w ≡ j) where
+    lower : Latest s j (yAt s i) (getD before w 0)
+    lower = let b = walk-below p d in rw (e, ← (same-last p d)) (c .is j (omega arith))
+
+    pub walk-more : sameRecord s i j ≡ false → Walk s i (getD before w 0)
+    walk-more f =
+        let b = walk-below p d in
+        record {
+          past = j;
+          within = omega arith;
+          apart = λ k u v. ⊎-elim (λ x. ap (sameRecord s i) (sym x) ∙ f) (λ x. passed-by p k v (inr x)) (eq-or-lt-of-le u);
+          next = lower;
+        }
+
+    pub walk-less : i < 256 → (getD before w 0 + 1) % 256 < (j + 1) % 256
+    walk-less m = let b = walk-below p d in ⊎-elim (λ x. omega arith) (λ x. let y = x .0 in omega arith) (lower .is)

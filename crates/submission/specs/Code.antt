@@ -1,5 +1,5 @@
 -- What the code's records mean in document 01's terms.
-use mathlib.Core.{Path._≡_, List.List, Option.Option, Option.none, Option.some}
+use mathlib.Core.{Path._≡_, Logic._⊎_, List.List, Option.Option, Option.none, Option.some}
 use Prim.Native.Nat.{ℕ, _≤_, _<_}
 use lib.ListN.{length, getD}
 use Rattle.submission.specs.declared.Term.{Term}
@@ -87,11 +87,15 @@ pub record ReadingIs (s : List ℕ) (d : Check) (r : Reading) : Type 0 where
   pub answer : readingCheck r ≡ d
   pub claim : (c : Claim) → r ≡ Good c → IsClaim s c
 
--- the last bytes of the records of the first i terms
-pub record LastBytes (s : List ℕ) (i : ℕ) (l : List ℕ) : Type 0 where
-  pub within : i ≤ terms s
-  pub long : length l ≡ 256
-  pub is : (k : ℕ) → k < i → getD l k 0 ≡ yAt s k
+-- b numbers the latest of the first i terms whose record's last byte is y, and 255 stands for none
+pub record Latest (s : List ℕ) (i y b : ℕ) : Type 0 where
+  pub is : (b ≡ 255) ⊎ ((b < i) × (yAt s b ≡ y))
+  pub last : (k : ℕ) → k < i → (b ≡ 255) ⊎ (b < k) → yAt s k ≡ y → ⊥
+
+-- before has, for each of the first n terms, the latest earlier one whose record has the same last byte
+pub record Chained (s : List ℕ) (n : ℕ) (before : List ℕ) : Type 0 where
+  pub long : length before ≡ 256
+  pub is : (k : ℕ) → k < n → Latest s k (yAt s k) (getD before k 0)
 
 -- what the limits say of the counts that programs and registers are made of
 pub record Limited (s : List ℕ) : Type 0 where

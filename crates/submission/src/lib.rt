@@ -9,7 +9,7 @@ use term::Relation;
 use term::kinds;
 ghost use mathlib.Core.Path.{_≡_};
 ghost use mathlib.Core.Bool.{_&&_, not};
-ghost use Prim.Native.Nat.{_<_};
+ghost use Prim.Native.Nat.{_+_, _<_};
 ghost use lib.Dec.{eqb};
 ghost use Rattle.base.specs.Lists.{any, first};
 ghost use Rattle.term.specs.Kind.{shapeOf};
@@ -19,7 +19,7 @@ ghost use Rattle.submission.specs.Computed.{areInverse};
 ghost use Rattle.submission.specs.Way.{wayOf, row, inRange, claimFits};
 ghost use Rattle.submission.specs.Check.{shapeFits, sameRecord, badTerm, badKnowledge, goodClaim, checks1to4, checks1to5};
 ghost use Rattle.base.specs.Code.{checkOf};
-ghost use Rattle.submission.specs.Code.{Starts, IsTerm, wayIs, letterIs, rangeIs, rowIs, IsClaimBytes, IsClaim, readingCheck, ReadingIs, LastBytes};
+ghost use Rattle.submission.specs.Code.{Starts, IsTerm, wayIs, letterIs, rangeIs, rowIs, IsClaimBytes, IsClaim, readingCheck, ReadingIs, Chained};
 ghost use Rattle.base.specs.Answer.{failsAt, failsIf};
 
 pub fn terms(s: &[u8]) -> u8
@@ -234,75 +234,61 @@ fn shape_fits(s: &[u8], i: u8) -> bool
     kinds::takes(t.kind, second.kind)
 }
 
-// The last byte of each term's record, by the term's number.
-pub struct Lasts {
-    pub bytes: [u8; 256],
-}
-
-fn last_bytes(s: &[u8]) -> Lasts
-    ensures { λ r. ⌜ LastBytes (now (s .entry)) (termCount (now (s .entry))) (r .bytes) ⌝ }
-{
-    let mut l = Lasts { bytes: [0u8; 256] };
-    let n = terms(s);
-    for k in 0..n {
-        let t = term_at(s, k);
-        l.bytes[wide(k)] = t.y;
-    }
-    l
-}
-
-// Whether record j is t. The last byte tells most records apart, so it comes first.
-fn is_record(s: &[u8], last: &[u8; 256], j: u8, t: Term) -> bool
-    requires { ⌜ LastBytes (now s) (termCount (now s)) (now last) ⌝ }
-    requires { ⌜ j < termCount (now s) ⌝ }
+// Whether record j is t. Of records with the same last byte, x tells most apart, so it comes first.
+fn is_record(s: &[u8], j: u8, t: Term) -> bool
     ensures { λ r. ⌜ r ≡ (eqb (kindAt (now (s .entry)) j) (t .kind) && (eqb (xAt (now (s .entry)) j) (t .x) && eqb (yAt (now (s .entry)) j) (t .y))) ⌝ }
 {
-    if last[wide(j)] != t.y {
+    let u = term_at(s, j);
+    if u.x != t.x {
         return false;
     }
-    let u = term_at(s, j);
     if u.kind != t.kind {
         return false;
     }
-    u.x == t.x
+    u.y == t.y
 }
 
-// Whether an earlier record equals record i.
-fn is_repeated(s: &[u8], last: &[u8; 256], i: u8) -> bool
-    requires { ⌜ LastBytes (now s) (termCount (now s)) (now last) ⌝ }
-    requires { ⌜ i < termCount (now s) ⌝ }
+// Whether an earlier record equals record i. Only those with its last byte are compared, the latest first.
+fn is_repeated(s: &[u8], before: &[u8; 256], i: u8) -> bool
+    requires { ⌜ Chained (now s) (i + 1) (now before) ⌝ }
     ensures { λ r. ⌜ r ≡ any (sameRecord (now (s .entry)) i) i ⌝ }
 {
     let t = term_at(s, i);
-    let mut j: u8 = 0;
-    while j < i {
-        if is_record(s, last, j, t) {
+    let mut j = before[wide(i)];
+    while j != 255 {
+        if is_record(s, j, t) {
             return true;
         }
-        j += 1;
+        j = before[wide(j)];
     }
     false
 }
 
-fn is_term_bad(s: &[u8], last: &[u8; 256], i: u8) -> bool
-    requires { ⌜ LastBytes (now s) (termCount (now s)) (now last) ⌝ }
-    requires { ⌜ i < termCount (now s) ⌝ }
+fn is_term_bad(s: &[u8], before: &[u8; 256], i: u8) -> bool
+    requires { ⌜ Chained (now s) (i + 1) (now before) ⌝ }
     ensures { λ r. ⌜ r ≡ badTerm (now (s .entry)) i ⌝ }
 {
     if shape_fits(s, i) {
-        return is_repeated(s, last, i);
+        return is_repeated(s, before, i);
     }
     true
 }
 
+// `before` has for each record the latest earlier one with its last byte, and `latest` for each byte the latest record that ends in it; 255
+// stands for none, since a record's number is below 255.
 pub fn check_terms(s: &[u8]) -> Stage
     ensures { λ r. ⌜ checkOf r ≡ failsAt 3 (first (badTerm (now (s .entry))) (termCount (now (s .entry)))) ⌝ }
 {
-    let last = last_bytes(s);
     let n = terms(s);
+    let mut before = [255u8; 256];
+    let mut latest = [255u8; 256];
     let mut i: u8 = 0;
     while i < n {
-        if is_term_bad(s, &last.bytes, i) {
+        let t = term_at(s, i);
+        let y = wide(t.y);
+        before[wide(i)] = latest[y];
+        latest[y] = i;
+        if is_term_bad(s, &before, i) {
             return Stage::Refused {
                 number: 3,
                 place: wide16(i),

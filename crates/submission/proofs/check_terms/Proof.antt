@@ -1,29 +1,51 @@
--- `check_terms` meets its contract: the records before i are good.
-use Prim.Native.Nat.{_-_}
+-- `check_terms` meets its contract: the records before i are good, and their chains are made.
+use Prim.Native.Nat.{_-_, _<_}
+use native.Mathlib.Omega.{arith}
 use Rattle.base.proofs.Scan.{scan}
-use Rattle.base.proofs.First.{Passed}
+use Rattle.base.proofs.First.{Passed, passed-none}
 use Rattle.base.proofs.StageLaws.{fails-hit, passes-all}
 use Rattle.submission.specs.Check.{badTerm}
+use Rattle.submission.proofs.TermTests.{Chaining, chaining-none, chaining-more}
 use Rattle.submission.proofs.check_terms.Statement.{statement}
 use Rattle.submission.proofs.check_terms.Tie as tie
 
 abbrev Inv-loop : tie.InvT-loop
-Inv-loop s last n i₀ i = Passed (badTerm s) n i
+Inv-loop s n before₀ latest₀ i₀ before latest i = Passed (badTerm s) n i × Chaining s i before latest
 
 abbrev μ-loop : tie.MeasureT-loop
-μ-loop s last n i₀ i = n - i
-
-last-bytes-requires : tie.Need-last-bytes-requires Inv-loop μ-loop
-last-bytes-requires c κs = search scan
+μ-loop s n before₀ latest₀ i₀ before latest i = n - i
 
 terms-requires : tie.Need-terms-requires Inv-loop μ-loop
 terms-requires c κs = search scan
 
 loop-holds : tie.Need-loop-holds Inv-loop μ-loop
-loop-holds c = search scan
+loop-holds c = (passed-none, chaining-none)
+
+term-at-requires : tie.Need-term-at-requires Inv-loop μ-loop
+term-at-requires c κs = search scan
+
+wide-requires : tie.Need-wide-requires Inv-loop μ-loop
+wide-requires c κs = search scan
+
+array-read-before : tie.Need-array-read-before Inv-loop μ-loop
+array-read-before c = search scan
+
+wide-requires-2 : tie.Need-wide-requires-2 Inv-loop μ-loop
+wide-requires-2 c κs = search scan
+
+array-write-before : tie.Need-array-write-before Inv-loop μ-loop
+array-write-before c = search scan
+
+array-write-latest : tie.Need-array-write-latest Inv-loop μ-loop
+array-write-latest c = search scan
 
 is-term-bad-requires : tie.Need-is-term-bad-requires Inv-loop μ-loop
-is-term-bad-requires c κs = search scan
+is-term-bad-requires c κs =
+    let d = c .before in
+    let at = d .before .before .before in
+    let m : at .before .before .terms .result < 256 = omega arith in
+    let h : d .before .wide .result < 256 = omega arith in
+    chaining-more (at .before .loop .inv .1) (at .loop-test .taken) m (d .before .before .term-at .ensures) (d .before .wide .ensures) (d .wide2 .ensures) h .chained
 
 wide16-requires : tie.Need-wide16-requires Inv-loop μ-loop
 wide16-requires c κs = search scan
@@ -38,7 +60,12 @@ loop-less : tie.Need-loop-less Inv-loop μ-loop
 loop-less c = search scan
 
 loop-again : tie.Need-loop-again Inv-loop μ-loop
-loop-again c = search scan
+loop-again c =
+    let d = c .before .before .before in
+    let at = d .before .before .before in
+    let m : at .before .before .terms .result < 256 = omega arith in
+    let h : d .before .wide .result < 256 = omega arith in
+    (search scan, chaining-more (at .before .loop .inv .1) (at .loop-test .taken) m (d .before .before .term-at .ensures) (d .before .wide .ensures) (d .wide2 .ensures) h)
 
 returns-2 : tie.Need-returns-2 Inv-loop μ-loop
 returns-2 c = search (passes-all, scan)
@@ -49,9 +76,14 @@ check-terms-spec =
     (tie.spec
     Inv-loop
     μ-loop
-    last-bytes-requires
     terms-requires
     loop-holds
+    term-at-requires
+    wide-requires
+    array-read-before
+    wide-requires-2
+    array-write-before
+    array-write-latest
     is-term-bad-requires
     wide16-requires
     returns

@@ -1,28 +1,20 @@
--- `is_record` meets its contract: the last byte by the table of last bytes, then the others.
+-- `is_record` meets its contract: x tells most records apart, then the kind and y.
 use borrow.Author.Needs.{needs}
-use Rattle.submission.proofs.TermTests.{last-apart, kind-apart, last-same}
+use Rattle.submission.proofs.TermTests.{x-apart, kind-apart, y-told}
 use Rattle.submission.proofs.is_record.Statement.{statement}
 use Rattle.submission.proofs.is_record.Tie as tie
 
-wide-requires : tie.Need-wide-requires
-wide-requires c κs = search needs
-
-element-copy-out-if1 : tie.Need-element-copy-out-if1
-element-copy-out-if1 c = search needs
-
-returns : tie.Need-returns
-returns c = search (last-apart, needs)
-
 term-at-requires : tie.Need-term-at-requires
 term-at-requires c κs = search needs
+
+returns : tie.Need-returns
+returns c = search (x-apart, needs)
 
 returns-2 : tie.Need-returns-2
 returns-2 c = search (kind-apart, needs)
 
 returns-3 : tie.Need-returns-3
-returns-3 c = search (last-same, needs)
+returns-3 c = search (y-told, needs)
 
 pub is-record-spec : {M : Type 1} → statement M
-is-record-spec =
-    tie.close
-    (tie.spec wide-requires element-copy-out-if1 returns term-at-requires returns-2 returns-3)
+is-record-spec = tie.close (tie.spec term-at-requires returns returns-2 returns-3)

@@ -1,41 +1,53 @@
--- `is_repeated` meets its contract: the records before j differ from record i.
-use Prim.Native.Nat.{_-_}
-use Rattle.base.proofs.Scan.{scan}
-use Rattle.base.proofs.First.{Passed}
-use Rattle.submission.proofs.TermTests.{same-record}
-use Rattle.submission.specs.Check.{sameRecord}
+-- `is_repeated` meets its contract: the walk along the chain of record i.
+use Prim.Native.Nat.{_+_, _%_, _<_}
+use native.Mathlib.Omega.{arith}
+use borrow.Author.Needs.{needs}
+use Rattle.submission.proofs.TermTests.{same-record, Walk, walk-start, walk-below, walk-more, walk-less, walk-hit, walk-end}
 use Rattle.submission.proofs.is_repeated.Statement.{statement}
 use Rattle.submission.proofs.is_repeated.Tie as tie
 
 abbrev Inv-loop : tie.InvT-loop
-Inv-loop s last i t j₀ j = Passed (sameRecord s i) i j
+Inv-loop s before i t j₀ j = Walk s i j
 
 abbrev μ-loop : tie.MeasureT-loop
-μ-loop s last i t j₀ j = i - j
+μ-loop s before i t j₀ j = (j + 1) % 256
 
 term-at-requires : tie.Need-term-at-requires Inv-loop μ-loop
-term-at-requires c κs = search scan
+term-at-requires c κs = search needs
+
+wide-requires : tie.Need-wide-requires Inv-loop μ-loop
+wide-requires c κs = search needs
+
+element-copy-out-j : tie.Need-element-copy-out-j Inv-loop μ-loop
+element-copy-out-j c = search needs
 
 loop-holds : tie.Need-loop-holds Inv-loop μ-loop
-loop-holds c = search scan
+loop-holds c = search (walk-start, needs)
 
 is-record-requires : tie.Need-is-record-requires Inv-loop μ-loop
-is-record-requires c κs = search scan
+is-record-requires c κs = search needs
 
 returns : tie.Need-returns Inv-loop μ-loop
-returns c = search (same-record, scan)
+returns c = search (walk-hit, same-record, needs)
 
-add-j : tie.Need-add-j Inv-loop μ-loop
-add-j c = search scan
+wide-requires-2 : tie.Need-wide-requires-2 Inv-loop μ-loop
+wide-requires-2 c κs = search needs
+
+element-copy-out-j-2 : tie.Need-element-copy-out-j-2 Inv-loop μ-loop
+element-copy-out-j-2 c =
+    let b : c .before .before .before .before .loop .j < c .before .before .before .before .before .before .before .before .before .args .i = search walk-below in
+    search needs
 
 loop-less : tie.Need-loop-less Inv-loop μ-loop
-loop-less c = search scan
+loop-less c =
+    let m : c .before .before .before .before .before .before .before .before .before .before .args .i < 256 = omega arith in
+    search (walk-less, needs)
 
 loop-again : tie.Need-loop-again Inv-loop μ-loop
-loop-again c = search (same-record, scan)
+loop-again c = search (walk-more, same-record, needs)
 
 returns-2 : tie.Need-returns-2 Inv-loop μ-loop
-returns-2 c = search scan
+returns-2 c = search (walk-end, needs)
 
 pub is-repeated-spec : {M : Type 1} → statement M
 is-repeated-spec =
@@ -44,10 +56,13 @@ is-repeated-spec =
     Inv-loop
     μ-loop
     term-at-requires
+    wide-requires
+    element-copy-out-j
     loop-holds
     is-record-requires
     returns
-    add-j
+    wide-requires-2
+    element-copy-out-j-2
     loop-less
     loop-again
     returns-2)
