@@ -1,8 +1,7 @@
 -- What a call answers, and the order of checks: document 01, 'Verdicts'.
 use Rattle.base.specs.Words.{Bool, true, false, List, _++_, Option, none, some, ℕ, length, drop}
 
--- "An acceptance carries N"; deducible's yes and no are 1 and 0, and so is the signal.
--- "Every refusal carries number and place."
+-- "An acceptance carries N"; deducible's yes and no are 1 and 0, and so is the signal. "Every refusal carries number and place."
 pub data Answer : Type 0 where
   done : ℕ → Answer
   refused : ℕ → ℕ → Answer
@@ -31,8 +30,7 @@ abbrev pub answered : Check → Answer → Answer
 answered passes a = a
 answered (fails number place) a = refused number place
 
--- The page after a call that answers a and writes these bytes where it is done: they stand at its start, and the rest is as before.
--- "Every refusal carries number and place, and the page keeps its bytes."
+-- the page after a call that writes these bytes where it is done: they stand at its start, and the rest is as before; a refusal keeps its bytes
 abbrev pub pageAfter : Answer → List ℕ → List ℕ → List ℕ
 pageAfter (done n) bytes page = bytes ++ drop (length bytes) page
 pageAfter (refused number place) bytes page = page

@@ -1,5 +1,5 @@
 -- Lists: the first failing place, a list grown at its end, and bytes.
-use Rattle.base.specs.Words.{Bool, true, false, Option, none, some, List, [], _∷_, _++_, ℕ, zero, suc, _+_, _*_, _<_, getD}
+use Rattle.base.specs.Words.{Bool, true, false, Option, none, some, List, [], _∷_, _++_, ℕ, zero, suc, _+_, _<_, getD}
 
 -- the first of i, i + 1, .. (n numbers) at which p holds
 unfoldable pub firstFrom : (ℕ → Bool) → ℕ → ℕ → Option ℕ
@@ -26,10 +26,6 @@ listed f n = grow [] (λ l i. f i) n
 -- the byte at i, and 0 past the end
 abbrev pub byte : List ℕ → ℕ → ℕ
 byte s i = getD s i 0
-
--- "two-byte .. (high byte first)"
-abbrev pub word : List ℕ → ℕ → ℕ
-word s i = byte s i * 256 + byte s (i + 1)
 
 -- a list of bytes
 abbrev pub Bytes : List ℕ → Type 0

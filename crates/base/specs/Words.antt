@@ -2,8 +2,3 @@
 pub use mathlib.Core.{Path._≡_, Logic._⊎_, Logic._↔_, Logic.ite, Logic.Dec·and, Bool.Bool, Bool.true, Bool.false, Bool._&&_, Bool._||_, Bool.not, Bool.cond, Option.Option, Option.none, Option.some, List.List, List.[], List._∷_, List._++_, List.map}
 pub use Prim.Native.Nat.{ℕ, zero, suc, _+_, _-_, _*_, _/_, _%_, _≤_, _<_, min}
 pub use lib.{Dec.eqb, Dec.ltb, Dec.T as Holds, ListN.length, ListN.getD, ListN.getElem?, ListN.take, ListN.drop, ListN.replicate, Seq.sets}
-
--- a decision as a truth value
-abbrev pub truth : {P : Type 0} → Dec P → Bool
-truth (yes p) = true
-truth (no p) = false

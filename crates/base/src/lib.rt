@@ -2,9 +2,9 @@
 // of a scan and a list grown at its end.
 // Promises: every function is total, and its answer is what the definitions of specs/ give.
 ghost use mathlib.Core.Path.{_≡_};
-ghost use Prim.Native.Nat.{_<_};
+ghost use Prim.Native.Nat.{_+_, _*_, _<_};
 ghost use Rattle.base.specs.Answer.{done, answered};
-ghost use Rattle.base.specs.Lists.{byte as byteAt, word as wordAt};
+ghost use Rattle.base.specs.Lists.{byte as byteAt};
 ghost use Rattle.base.specs.Code.{checkOf};
 ghost use Rattle.base.specs.Calls.{answerOf};
 
@@ -53,7 +53,7 @@ pub fn byte(s: &[u8], i: usize) -> u8
 // Two bytes from i on, high byte first.
 pub fn word(s: &[u8], i: usize) -> usize
     requires { ⌜ i < 65536 ⌝ }
-    ensures { λ r. ⌜ r ≡ wordAt (now (s .entry)) i ⌝ }
+    ensures { λ r. ⌜ r ≡ byteAt (now (s .entry)) i * 256 + byteAt (now (s .entry)) (i + 1) ⌝ }
 {
     wide(byte(s, i)) * 256 + wide(byte(s, i + 1))
 }

@@ -9,12 +9,11 @@ use Rattle.base.specs.Lists.{Bytes}
 use Rattle.submission.specs.Record.{entries}
 use Rattle.submission.proofs.theory.ListedTerms.{claimed}
 use Rattle.text.specs.Text.{answerText, refusedText}
-use Rattle.text.specs.Puts.{Puts}
+use Rattle.text.specs.Calls.{Puts}
 use Rattle.text.proofs.theory.TextLength.{accepted-whole, refused-whole}
 use Rattle.conditions.specs.declared.Verdict.{Verdict}
 use Rattle.conditions.specs.declared.Verdict.the-variants.{Accepted, Refused}
 use Rattle.conditions.specs.Check.{checkAnswer}
-use Rattle.conditions.specs.Check.{pageChecked}
 use Rattle.checker.specs.Calls.{verdictText}
 use Rattle.conditions.specs.Calls.{verdictAnswer, Checked}
 use Rattle.checker.specs.Calls.{Printed}
@@ -23,7 +22,7 @@ use Rattle.conditions.proofs.theory.Acceptance.{accepted-iff}
 module _ (s : List ℕ) {page : List ℕ} (v : Verdict) (c : Checked s (replicate 388 0) v page) where
   -- the text, from the answer that the page of 388 bytes got
   text-of : (a : Answer) → verdictAnswer v ≡ a → verdictText s ≡ answerText (entries s) a page
-  unfolding verdictText pageChecked
+  unfolding verdictText
   text-of a e =
       let f : checkAnswer s 388 ≡ a = rw (length-replicate {A = ℕ} 388 0) at (sym (c .answer) ∙ e) in
       ap₂ (answerText (entries s)) f (sym (c .bytes))

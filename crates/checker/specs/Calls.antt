@@ -1,9 +1,9 @@
 -- What the calls promise that stand in this crate: those for C, and `write_verdict`.
-use Rattle.base.specs.{Words._≡_, Words.List, Words.ℕ, Words._+_, Words._*_, Words._≤_, Words.length, Words.take, Words.replicate, Answer.Answer, Answer.done, Answer.refused, Calls.Writes}
+use Rattle.base.specs.{Words._≡_, Words.List, Words.ℕ, Words._+_, Words._*_, Words._≤_, Words.length, Words.take, Words.replicate, Answer.Answer, Answer.done, Answer.refused, Calls.Writes, Answer.pageAfter}
 use Rattle.submission.specs.Record.{entries}
-use Rattle.text.specs.{Puts.Puts, Text.answerText}
+use Rattle.text.specs.{Calls.Puts, Text.answerText}
 use Rattle.program.specs.Program.{bytesOf}
-use Rattle.conditions.specs.Check.{checkAnswer, program, pageChecked}
+use Rattle.conditions.specs.Check.{checkAnswer, program}
 
 -- an answer as one number for C: a refusal is its number and its place, 16 bits wide; what is done is its value
 abbrev pub encoded : Answer → ℕ
@@ -16,7 +16,7 @@ Encoded s page r page′ = Writes (λ a. r ≡ encoded a) (checkAnswer s (length
 
 -- what the program `verdict` prints of a submission, "with a page of 388 bytes": document 01, after 'Marked examples'
 unfoldable pub verdictText : List ℕ → List ℕ
-verdictText s = answerText (entries s) (checkAnswer s 388) (pageChecked s (replicate 388 0))
+verdictText s = answerText (entries s) (checkAnswer s 388) (pageAfter (checkAnswer s 388) (bytesOf (program s)) (replicate 388 0))
 
 -- `write_verdict`: the text is in the buffer, as far as that reaches, and whole in one of 4,096 bytes
 pub record Printed (s out : List ℕ) (r : ℕ) (out′ : List ℕ) : Type 0 where

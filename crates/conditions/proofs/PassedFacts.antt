@@ -4,7 +4,7 @@ use mathlib.Core.Bool.{Bool, true, _&&_, cond, not}
 use mathlib.Core.List.{List}
 use Prim.Native.Nat.{ℕ, _<_}
 use Rattle.base.proofs.Says.{not-not-false}
-use Rattle.term.specs.Rule.{hasOne}
+use Rattle.term.specs.Number.{hasOne}
 use Rattle.submission.specs.declared.Claim.{Claim}
 use Rattle.base.specs.Answer.{fails, failsIf, failsAt}
 use Rattle.submission.specs.Code.{Limited}

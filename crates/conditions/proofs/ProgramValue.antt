@@ -7,7 +7,7 @@ use Prim.Native.Nat.{ℕ, _+_, _≤_, _<_}
 use native.Mathlib.Omega.{arith}
 use lib.ListN.{getD, set, drop}
 use Rattle.base.proofs.Says.{says-true, says-and}
-use Rattle.term.specs.Rule.{hasOne}
+use Rattle.term.specs.Number.{hasOne}
 use Rattle.submission.specs.declared.Claim.{Claim}
 use Rattle.submission.specs.{Record.steps, Record.pAt, Record.qAt, Record.conclusionAt, Record.verifying, Record.wayAt, Record.companion, Computed.areInverse}
 use Rattle.submission.specs.declared.Row.{Row as RowRead}
@@ -19,7 +19,7 @@ use Rattle.term.specs.Code.{relationIs}
 use Rattle.program.specs.Program.{rowOf}
 use Rattle.derivation.specs.declared.Step.{Step}
 use Rattle.derivation.specs.declared.Registers.{Registers}
-use Rattle.derivation.specs.{Register.written, Register.every, Computed.isKnown}
+use Rattle.derivation.specs.{Register.written, Computed.every, Computed.isKnown}
 use Rattle.submission.specs.Record.{secondAt}
 use Rattle.derivation.specs.Computed.{unfounded}
 use Rattle.derivation.specs.Code.{IsStep, Registered}

@@ -12,7 +12,7 @@ use borrow.Author.Tests.{eq-eqb, ne-eqb, lt-ltb, le-ltb}
 use Rattle.base.specs.Lists.{first, any}
 use Rattle.base.proofs.First.{first-none, first-some, passed-any, passed-not-any}
 use Rattle.base.proofs.Order.{lt-or-ge}
-use Rattle.term.specs.Rule.{hasOne}
+use Rattle.term.specs.Number.{hasOne}
 use Rattle.submission.specs.declared.Claim.{Claim}
 use Rattle.submission.specs.Code.{Limited}
 use Rattle.submission.specs.{Record.entries, Record.steps, Record.pAt, Record.wayAt, Record.companion, Computed.areInverse}

@@ -1,9 +1,9 @@
 -- What checking answers and writes: checks 8 to 11, the register program, the page. Document 01, 'Verdicts' and 'The register program'.
-use Rattle.base.specs.{Words.cond, Words.List, Words.Option, Words.none, Words.some, Words.ℕ, Words.length, Lists.listed, Answer.pageAfter, Words.not, Words.ltb, Lists.first, Answer.Answer, Answer.done, Answer.Check, Answer.failsAt, Answer.failsIf, Answer.andThen, Answer.answered}
-use Rattle.term.specs.Rule.{hasOne}
+use Rattle.base.specs.{Words.true, Words.cond, Words.List, Words.Option, Words.none, Words.some, Words.ℕ, Lists.listed, Words.not, Words.ltb, Lists.first, Answer.Answer, Answer.done, Answer.Check, Answer.failsAt, Answer.failsIf, Answer.andThen, Answer.answered}
+use Rattle.term.specs.Number.{hasOne}
 use Rattle.submission.specs.{Record.steps, Record.ruleAt, Record.pAt, Record.qAt, Record.conclusionAt, Record.verifying, Record.wayAt, Record.companion, Way.Way, Way.wayOf, Way.Operand, Way.verifying-result, Way.companion-result, Way.lowest-conclusion, Way.lowest-companion, Way.row, Check.checks1to5}
-use Rattle.derivation.specs.{Register.written, Register.lowestAmong, Register.every, Step.checkSteps}
-use Rattle.program.specs.Program.{rowOf, Instruction, Program, bytesOf, programLength}
+use Rattle.derivation.specs.{Register.written, Register.lowestAmong, Step.checkSteps}
+use Rattle.program.specs.Program.{rowOf, Instruction, Program, programLength}
 use Rattle.conditions.specs.Computed.{reachable, hasSecondWay, undone}
 
 -- "Order: as numbered, but 6 and 7 are tried together". 8 reachable: "condition 3 broken", place "verifying step"; 9 no second way:
@@ -20,9 +20,9 @@ unfoldable pub checkAnswer : List ℕ → ℕ → Answer
 checkAnswer s room =
     answered (andThen (checks1to10 s) (failsIf (ltb room (programLength (steps s))) 11 (programLength (steps s)))) (done (steps s))
 
--- the lowest register that holds the term t
+-- the lowest register that holds the term t; every register counts
 unfoldable pub lowest : List ℕ → ℕ → ℕ
-lowest s t = elim (lowestAmong every s (written s (steps s)) t) [ none ↦ 0 | some r ↦ r ]
+lowest s t = elim (lowestAmong (λ r. true) s (written s (steps s)) t) [ none ↦ 0 | some r ↦ r ]
 
 -- "per step the rule number and two registers (second 0 for rules 1, 2)"; "A premise is taken from its lowest register."
 unfoldable pub instruction : List ℕ → ℕ → Instruction
@@ -43,7 +43,3 @@ testFor s (some w) = record { rule = rowOf (row w .relation) .letter; left = nam
 -- document 01's register program for the submission
 unfoldable pub program : List ℕ → Program
 program s = record { steps = listed (instruction s) (steps s); test = testFor s (wayOf (wayAt s)) }
-
--- The page after checking. "An acceptance .. changes the first 3N+4 bytes of the page only."
-unfoldable pub pageChecked : List ℕ → List ℕ → List ℕ
-pageChecked s page = pageAfter (checkAnswer s (length page)) (bytesOf (program s)) page

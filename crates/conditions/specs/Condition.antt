@@ -2,7 +2,7 @@
 use Rattle.base.specs.{Words._≡_, Words._⊎_, Words._↔_, Words.List, Words.Option, Words.none, Words.some, Words.ℕ, Words._<_, Answer.passes}
 use Rattle.term.specs.{Term.Term, Term.isKey, Term.inverse, Step.Deducible, Step.Undoes}
 use Rattle.submission.specs.{Record.steps, Record.guess, Record.verifying, Record.wayAt, Record.companion, Record.term, Record.InKnowledge, Way.Way, Way.another-step, Way.at-start, Way.inverse-key, Way.wayOf, Check.checks1to5}
-use Rattle.derivation.specs.Step.{rule, firstPremise, secondPremise, concluded, StepFits, Known, StepFounded}
+use Rattle.derivation.specs.Step.{rule, firstPremise, secondPremise, concluded, StepFits, Known}
 
 -- "a submission is well formed when it passes checks 1 to 5 and every step passes check 6"
 pub record WellFormed (s : List ℕ) : Type 0 where
@@ -35,7 +35,7 @@ UndoesNone s j = (i : ℕ) → i < steps s → Undoes (rule s j) (firstPremise s
 
 pub record FiveConditions (s : List ℕ) : Type 0 where
   -- 1. "Every step is founded."
-  pub founded : (i : ℕ) → i < steps s → StepFounded s i
+  pub founded : (i : ℕ) → i < steps s → Known s i (firstPremise s i) × Known s i (secondPremise s i)
   -- 2. "The verifying step is one of the derivation."
   pub present : verifying s < steps s
   -- 3. "Some member of S is not deducible from the knowledge without the guess."

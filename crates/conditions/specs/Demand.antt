@@ -1,10 +1,10 @@
 -- Demands 2 and 3, of checking. What the definitions promise; the contracts of the calls say that the code answers what they give.
-use Rattle.base.specs.{Words._≡_, Words._↔_, Words.List, Words.ℕ, Words._≤_, Words.length, Words.take, Words.drop, Answer.done, Lists.Bytes}
+use Rattle.base.specs.{Words._≡_, Words._↔_, Words.List, Words.ℕ, Words._≤_, Words.length, Words.take, Words.drop, Answer.done, Lists.Bytes, Answer.pageAfter}
 use Rattle.term.specs.Term.{Fresh}
 use Rattle.submission.specs.Record.{steps, guess, nameAt, InKnowledge}
 use Rattle.program.specs.Program.{bytesOf, programLength}
 use Rattle.machine.specs.Run.{guessed, runAnswer}
-use Rattle.conditions.specs.{Check.checkAnswer, Condition.WellFormed, Condition.FiveConditions, Check.program, Check.pageChecked}
+use Rattle.conditions.specs.{Check.checkAnswer, Condition.WellFormed, Condition.FiveConditions, Check.program}
 
 -- Demand 2: "A submission is accepted exactly when it is well formed, meets the five conditions of document 01 and has a page long
 -- enough", and the acceptance carries N.
@@ -32,7 +32,9 @@ pub record KeptPromise (s page : List ℕ) (n : ℕ) (page′ : List ℕ) : Type
 
 -- Demand 3: every acceptance keeps the promise,
 abbrev pub Demand3 : Type 0
-Demand3 = (s page : List ℕ) → Bytes s → (n : ℕ) → checkAnswer s (length page) ≡ done n → KeptPromise s page n (pageChecked s page)
+Demand3 =
+    (s page : List ℕ) → Bytes s → (n : ℕ) → checkAnswer s (length page) ≡ done n →
+    KeptPromise s page n (pageAfter (checkAnswer s (length page)) (bytesOf (program s)) page)
 
 -- "And every submission that is well formed and meets the five conditions, with page enough, is accepted."
 abbrev pub EveryGoodAccepted : Type 0

@@ -14,7 +14,7 @@ use Rattle.term.specs.Code.{Below}
 use Rattle.submission.specs.declared.Term.{Term}
 use Rattle.submission.specs.Code.{IsTerm}
 use Rattle.term.specs.Term.{Shape, atomic, compound, isAtomic}
-use Rattle.term.specs.Kind.{shapeOf}
+use Rattle.term.specs.Number.{shapeOf}
 use Rattle.term.specs.Code.{isUnary}
 use Rattle.submission.specs.Record.{terms, kindAt, xAt, yAt, nameAt, recordOf, recordAt}
 use Rattle.deduction.specs.declared.Parts.{Parts}

@@ -12,7 +12,7 @@ use Rattle.base.specs.Lists.{first}
 use Rattle.base.proofs.First.{Passed, passed-hit, passed-all, first-none, first-some}
 use Rattle.base.proofs.Says.{Says, says-and, says-any, says-true, same-test, denies}
 use Rattle.term.specs.Term.{asymmetric, isKeyFor}
-use Rattle.term.specs.Kind.{shapeOf}
+use Rattle.term.specs.Number.{shapeOf}
 use Rattle.term.proofs.Kind.{no-inverse}
 use Rattle.term.proofs.Reduce.{match-det}
 use Rattle.submission.specs.declared.Term.{Term}

@@ -8,7 +8,7 @@ use lib.Dec.{eqb}
 use lib.ListN.{getD}
 use borrow.Author.Tests.{ne-eqb}
 use Rattle.base.proofs.First.{Passed as PassedTo, passed-more, passed-hit, passed-all}
-use Rattle.term.specs.Rule.{hasOne}
+use Rattle.term.specs.Number.{hasOne}
 use Rattle.base.specs.Answer.{passes, fails, failsIf, andThen}
 use Rattle.submission.specs.Record.{steps}
 use Rattle.base.specs.Code.{checkOf}

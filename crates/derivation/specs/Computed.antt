@@ -1,12 +1,16 @@
 -- Checks 6 and 7 as tests of term numbers. What they say of terms is in `Step`, by the theorems `fits-iff` and `founded-terms`.
-use Rattle.base.specs.{Words.Bool, Words._&&_, Words.not, Words.List, Words.ℕ, Words.eqb, Words.ltb, Lists.any}
-use Rattle.term.specs.{Term.Cipher, Term.symmetric, Term.asymmetric, Term.Side, Term.left, Term.right, Term.pair, Term.encryption, Term.Head, Term.make, Term.part, Term.decrypt, Term.compound, Computed.kindOf, Rule.isRule, Rule.headOf}
+use Rattle.base.specs.{Words.Bool, Words.true, Words._&&_, Words.not, Words.List, Words.ℕ, Words.eqb, Words.ltb, Lists.any}
+use Rattle.term.specs.{Term.Cipher, Term.symmetric, Term.asymmetric, Term.Side, Term.left, Term.right, Term.pair, Term.encryption, Term.Head, Term.make, Term.part, Term.decrypt, Term.compound, Computed.kindOf, Number.isRule, Number.headOf}
 use Rattle.submission.specs.{Record.terms, Record.kindAt, Record.xAt, Record.yAt, Record.ruleAt, Record.pAt, Record.qAt, Record.secondAt, Record.conclusionAt, Computed.areInverse}
-use Rattle.derivation.specs.Register.{written, holdsTerm, every}
+use Rattle.derivation.specs.Register.{written, holdsTerm}
 
 -- a register that counts and is written before step i holds the term t
 abbrev pub knownAmong : (ℕ → Bool) → List ℕ → ℕ → ℕ → Bool
 knownAmong counts s i t = any (holdsTerm counts s t) (written s i)
+
+-- every register counts
+abbrev pub every : ℕ → Bool
+every r = true
 
 abbrev pub isKnown : List ℕ → ℕ → ℕ → Bool
 isKnown s i t = knownAmong every s i t

@@ -1,5 +1,5 @@
 -- The registers' terms: document 01, 'The register program'.
-use Rattle.base.specs.{Words.Bool, Words.true, Words._&&_, Words.cond, Words.List, Words.Option, Words.ℕ, Words._+_, Words._-_, Words.eqb, Words.ltb, Lists.first}
+use Rattle.base.specs.{Words.Bool, Words._&&_, Words.cond, Words.List, Words.Option, Words.ℕ, Words._+_, Words._-_, Words.eqb, Words.ltb, Lists.first}
 use Rattle.submission.specs.Record.{entries, entryAt, guess, conclusionAt}
 
 -- "Registers 0 to K-1 hold the knowledge in order, register K the guess, K+1+i the result of step i": register r's term number
@@ -17,7 +17,3 @@ holdsTerm counts s t r = counts r && eqb (registerTerm s r) t
 -- the lowest of the first n registers that counts and holds the term t
 abbrev pub lowestAmong : (ℕ → Bool) → List ℕ → ℕ → ℕ → Option ℕ
 lowestAmong counts s n t = first (holdsTerm counts s t) n
-
--- every register counts
-abbrev pub every : ℕ → Bool
-every r = true

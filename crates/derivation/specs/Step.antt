@@ -1,6 +1,6 @@
 -- The steps of a derivation, and checks 6 and 7: document 01, 'Dolev-Yao steps' and 'Verdicts'.
 use Rattle.base.specs.{Words._≡_, Words._⊎_, Words.true, Words._||_, Words.cond, Words.List, Words.Option, Words.none, Words.some, Words.ℕ, Words._<_, Lists.first, Answer.Check, Answer.passes, Answer.fails}
-use Rattle.term.specs.{Term.Head, Term.Term, Rule.rules, Rule.headOf, Rule.hasOne, Step.Step}
+use Rattle.term.specs.{Term.Head, Term.Term, Number.rules, Number.headOf, Number.hasOne, Step.Step}
 use Rattle.submission.specs.Record.{terms, steps, ruleAt, pAt, qAt, secondAt, conclusionAt, guess, term, InKnowledge}
 use Rattle.derivation.specs.Computed.{badStep, unfounded}
 
@@ -30,11 +30,7 @@ pub record StepFits (s : List ℕ) (i : ℕ) : Type 0 where
 abbrev pub Known : List ℕ → ℕ → Term → Type 0
 Known s i t = InKnowledge s t ⊎ ((t ≡ term s (guess s)) ⊎ ((j : ℕ) × (j < i) × (t ≡ concluded s j)))
 
--- Step i passes check 7, which `unfounded` computes (`founded-terms`): not "a premise not known"
-abbrev pub StepFounded : List ℕ → ℕ → Type 0
-StepFounded s i = Known s i (firstPremise s i) × Known s i (secondPremise s i)
-
--- "6 and 7 are tried together, step by step"
+-- "6 and 7 are tried together, step by step". Check 7, "a premise not known", is what `unfounded` computes (`founded-terms`).
 abbrev pub stepFault : List ℕ → Option ℕ → Check
 stepFault s none = passes
 stepFault s (some i) = fails (cond (badStep s i) 6 7) i

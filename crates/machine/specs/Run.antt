@@ -1,6 +1,6 @@
 -- The machine: document 01, 'Machine'. "Run takes a submission, a 16-bit name and a program."
-use Rattle.base.specs.{Words.Bool, Words.false, Words.cond, Words.List, Words.[], Words._∷_, Words._++_, Words.Option, Words.none, Words.some, Words.ℕ, Words.getD, Lists.grow, Lists.listed, Answer.Answer, Answer.done, Answer.failsIf, Answer.andThen, Answer.answered, Lists.byte, Words.truth}
-use Rattle.term.specs.{Term.Kind, Term.plain, Term.asymmetric, Term.Shape, Term.atomic, Term.compound, Term.Term, Term.atom, Computed.term?, Kind.shapeOf, Table.void, Reduce.op, Computed.match?, Rule.headOf, Term.Relation, Term.equal, Term.inverses}
+use Rattle.base.specs.{Words.Bool, Words.true, Words.false, Words.cond, Words.List, Words.[], Words._∷_, Words._++_, Words.Option, Words.none, Words.some, Words.ℕ, Words.getD, Lists.grow, Lists.listed, Answer.Answer, Answer.done, Answer.failsIf, Answer.andThen, Answer.answered, Lists.byte, Words.ite}
+use Rattle.term.specs.{Term.Kind, Term.plain, Term.asymmetric, Term.Shape, Term.atomic, Term.compound, Term.Term, Term.atom, Computed.term?, Number.shapeOf, Table.void, Reduce.op, Computed.match?, Number.headOf, Term.Relation, Term.equal, Term.inverses}
 use Rattle.submission.specs.{Record.entries, Record.entryAt, Record.guess, Record.kindAt, Record.term, Check.checks1to5}
 use Rattle.program.specs.Program.{relationOf, Instruction, instructionAt, testAt, operand, badProgram}
 
@@ -28,8 +28,8 @@ registers s name P n = grow (initial s name) (λ vs i. executed vs (instructionA
 -- "`=` signals 1 for equal terms, `i` when the first is a key and the second its inverse, else 0"
 abbrev pub holds : Option Relation → Term → Term → Bool
 holds none a b = false
-holds (some equal) a b = truth (term? b a)
-holds (some inverses) a b = truth (match? asymmetric a b)
+holds (some equal) a b = ite (term? b a) true false
+holds (some inverses) a b = ite (match? asymmetric a b) true false
 
 unfoldable pub signals : List Term → Instruction → Bool
 signals vs t = holds (relationOf (t .rule)) (getD vs (t .left) void) (getD vs (t .right) void)

@@ -1,6 +1,6 @@
 -- Register programs: their tests, instructions and bytes, and check 13. Document 01, 'The register program' and 'Verdicts'.
 use Rattle.base.specs.{Words.cond, Words.List, Words.[], Words._∷_, Words.Option, Words.none, Words.some, Words.ℕ, Words.eqb, Words.Bool, Words.true, Words._&&_, Words._||_, Words.not, Words._++_, Words._+_, Words._*_, Words.ltb, Words.length, Lists.any, Lists.byte}
-use Rattle.term.specs.{Term.Relation, Term.equal, Term.inverses, Rule.isRule, Rule.hasOne}
+use Rattle.term.specs.{Term.Relation, Term.equal, Term.inverses, Number.isRule, Number.hasOne}
 use Rattle.submission.specs.Record.{entries}
 
 -- a test's letter, how many registers it names (the byte of one that it does not name is 0), and its printed word
@@ -63,13 +63,10 @@ goodRegisters n one left right = ltb left n && cond one (eqb right 0) (ltb right
 unfoldable pub badInstruction : ℕ → Instruction → Bool
 badInstruction n i = not (isRule (i .rule) && goodRegisters n (hasOne (i .rule)) (i .left) (i .right))
 
--- a test of this relation over n registers: "register not yet written; unused byte not 0; test letter"
-abbrev pub badFor : ℕ → Instruction → Option Relation → Bool
-badFor n t none = true
-badFor n t (some r) = not (goodRegisters n (eqb (rowOf r .registers) 1) (t .left) (t .right))
-
+-- a test over n registers: "register not yet written; unused byte not 0; test letter"
 unfoldable pub badTest : ℕ → Instruction → Bool
-badTest n t = badFor n t (relationOf (t .rule))
+badTest n t =
+    elim (relationOf (t .rule)) [ none ↦ true | some r ↦ not (goodRegisters n (eqb (rowOf r .registers) 1) (t .left) (t .right)) ]
 
 -- 13 program: "empty; length not 3n+4 or n over 128, n the first byte; rule; register not yet written; unused byte not 0; test letter"
 unfoldable pub badProgram : List ℕ → List ℕ → Bool

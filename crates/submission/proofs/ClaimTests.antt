@@ -9,7 +9,7 @@ use lib.Dec.{eqb, ltb}
 use borrow.Author.Tests.{ne-eqb}
 use Rattle.base.specs.Answer.{passes, fails, failsIf}
 use Rattle.term.specs.Term.{isAtomic}
-use Rattle.term.specs.Kind.{shapeOf}
+use Rattle.term.specs.Number.{shapeOf}
 use Rattle.submission.specs.declared.Term.{Term}
 use Rattle.submission.specs.declared.Claim.{Claim}
 use Rattle.submission.specs.declared.ClaimBytes.{ClaimBytes}

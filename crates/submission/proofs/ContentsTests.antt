@@ -1,19 +1,20 @@
 -- Checks 1 and 2, one test at a time: what a byte or a word that was read says of an entry of the contents.
 use mathlib.Core.Path.{_≡_, refl}
-use mathlib.Core.Bool.{Bool, true, false, _||_, or-true}
+use mathlib.Core.Bool.{Bool, true, false, _||_, not, or-true}
 use mathlib.Core.List.{List}
 use Prim.Native.Nat.{ℕ, _*_, _<_, _≤_}
+use lib.Dec.{eqb}
 use borrow.Author.Tests.{eq-eqb, ne-eqb, lt-ltb, le-ltb}
 use mathlib.Core.Option.{none, some}
 use Rattle.base.specs.{Lists.any, Lists.first, Lists.firstFrom, Code.isSome}
 use Rattle.base.specs.Lists.{byte}
-use Rattle.submission.specs.Record.{letter, count, wrongLetter, least, most, badCount}
+use Rattle.submission.specs.Record.{letter, count, least, most, badCount}
 
 module _ (s : List ℕ) (i : ℕ) {r : ℕ} where
-  pub letter-wrong : r ≡ byte s (4 * i) → (r ≡ letter i → ⊥) → wrongLetter s i ≡ true
+  pub letter-wrong : r ≡ byte s (4 * i) → (r ≡ letter i → ⊥) → not (eqb (byte s (4 * i)) (letter i)) ≡ true
   letter-wrong e h = rw (← e, ne-eqb _ _ h)
 
-  pub letter-right : r ≡ byte s (4 * i) → r ≡ letter i → wrongLetter s i ≡ false
+  pub letter-right : r ≡ byte s (4 * i) → r ≡ letter i → not (eqb (byte s (4 * i)) (letter i)) ≡ false
   letter-right e h = rw (← e, eq-eqb _ _ h)
 
   pub too-few : r ≡ count s i → r < least i → badCount s i ≡ true

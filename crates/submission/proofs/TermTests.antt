@@ -18,7 +18,7 @@ use Rattle.base.proofs.Order.{lt-or-ge}
 use Rattle.base.proofs.First.{first-found}
 use Rattle.base.proofs.Scan.{false-any}
 use Rattle.term.specs.Term.{Shape, atomic, compound, takes, isAtomic}
-use Rattle.term.specs.Kind.{shapeOf}
+use Rattle.term.specs.Number.{shapeOf}
 use Rattle.term.specs.Code.{isUnary, secondOf}
 use Rattle.submission.specs.declared.Term.{Term}
 use Rattle.submission.specs.Record.{kindAt, xAt, yAt}

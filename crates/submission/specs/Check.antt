@@ -1,6 +1,6 @@
 -- Checks 3 to 5, and the first five in order: document 01, 'Verdicts'.
 use Rattle.base.specs.{Words.Bool, Words.true, Words.false, Words._&&_, Words._||_, Words.not, Words.cond, Words.List, Words.Option, Words.none, Words.some, Words.ℕ, Words.eqb, Words.ltb, Lists.first, Lists.any, Answer.Check, Answer.failsAt, Answer.failsIf, Answer.andThen}
-use Rattle.term.specs.{Term.second, Term.unary, Term.Shape, Term.atomic, Term.compound, Term.takes, Term.isAtomic, Kind.shapeOf}
+use Rattle.term.specs.{Term.second, Term.unary, Term.Shape, Term.atomic, Term.compound, Term.takes, Term.isAtomic, Number.shapeOf}
 use Rattle.submission.specs.{Record.badContents, Record.badCount, Record.terms, Record.entries, Record.kindAt, Record.xAt, Record.yAt, Record.entryAt, Record.guess, Record.wayAt, Way.wayOf, Way.claimFits}
 
 -- "In 4 to 6, x and y number earlier terms", and y is of a kind that the form takes; where there is no second operand, y is 0

@@ -1,9 +1,8 @@
 -- A submission's contents and records, checks 1 and 2: document 01, 'The submission'. "Records count from 0."
-use Rattle.base.specs.{Words.Bool, Words._||_, Words.not, Words.List, Words.[], Words._∷_, Words.ℕ, Words.zero, Words.suc, Words._+_, Words._*_, Words.eqb, Words.ltb, Words.length, Words.getD, Lists.any, Lists.byte, Lists.word, Words._≡_, Words.cond, Words.Option, Words.none, Words.some, Words._<_}
-use Rattle.term.specs.{Rule.hasOne, Term.plain, Term.unary, Term.make, Term.Shape, Term.atomic, Term.compound, Term.Term, Kind.shapeOf, Table.Rec, Table.leaf, Table.branch, Table.decoded, Table.void, Term.second}
+use Rattle.base.specs.{Words.Bool, Words._||_, Words.not, Words.List, Words.[], Words._∷_, Words.ℕ, Words.zero, Words.suc, Words._+_, Words._*_, Words.eqb, Words.ltb, Words.length, Words.getD, Lists.any, Lists.byte, Words._≡_, Words.cond, Words.Option, Words.none, Words.some, Words._<_}
+use Rattle.term.specs.{Number.hasOne, Term.plain, Term.unary, Term.make, Term.Shape, Term.atomic, Term.compound, Term.Term, Number.shapeOf, Table.Rec, Table.leaf, Table.branch, Table.decoded, Table.void, Term.second}
 
--- "four entries of 4 bytes: a letter, a one-byte count, a two-byte start"; entries 0 to 3
--- "The letters, in order, are T terms, K knowledge, D derivation, V claim."
+-- "four entries of 4 bytes: a letter, a one-byte count, a two-byte start", 0 to 3; "T terms, K knowledge, D derivation, V claim"
 abbrev pub letter : ℕ → ℕ
 letter i = getD (0x54 ∷ 0x4B ∷ 0x44 ∷ 0x56 ∷ []) i 0
 
@@ -20,14 +19,11 @@ start s zero = 16
 start s (suc i) = start s i + width i * count s i
 
 -- 1 contents: "under 16 bytes; a letter, start or the length wrong"
-abbrev pub wrongLetter : List ℕ → ℕ → Bool
-wrongLetter s i = not (eqb (byte s (4 * i)) (letter i))
-
-abbrev pub wrongStart : List ℕ → ℕ → Bool
-wrongStart s i = not (eqb (word s (4 * i + 2)) (start s i))
-
 unfoldable pub badContents : List ℕ → Bool
-badContents s = ltb (length s) 16 || (any (wrongLetter s) 4 || (any (wrongStart s) 4 || not (eqb (length s) (start s 4))))
+badContents s =
+    ltb (length s) 16
+    || (any (λ i. not (eqb (byte s (4 * i)) (letter i))) 4
+    || (any (λ i. not (eqb (byte s (4 * i + 2) * 256 + byte s (4 * i + 3)) (start s i))) 4 || not (eqb (length s) (start s 4))))
 
 -- "Counts: T 1 to 250, K 0 to 64, D 0 to 128, V exactly 1."
 abbrev pub least : ℕ → ℕ

@@ -1,5 +1,4 @@
--- The ways of a claim, in one table: document 01, 'The submission', conditions 4 and 5, the test of 'The register program', and row 5 of 'Verdicts'.
--- What condition 4 asks in each way is in the crate `conditions`.
+-- The ways of a claim, in one table. What condition 4 asks in each way is in the crate `conditions`.
 use Rattle.base.specs.Words.{Bool, true, false, _&&_, cond, List, Option, none, some, ℕ, eqb, ltb}
 use Rattle.term.specs.Term.{Relation, equal, inverses}
 use Rattle.submission.specs.Record.{terms, steps, verifying, companion}

@@ -9,11 +9,11 @@ use term::Relation;
 use term::kinds;
 ghost use mathlib.Core.Path.{_≡_};
 ghost use mathlib.Core.Bool.{_&&_, not};
-ghost use Prim.Native.Nat.{_+_, _<_};
+ghost use Prim.Native.Nat.{_+_, _*_, _<_};
 ghost use lib.Dec.{eqb};
-ghost use Rattle.base.specs.Lists.{any, first};
-ghost use Rattle.term.specs.Kind.{shapeOf};
-ghost use Rattle.submission.specs.Record.{wrongLetter, wrongStart, badContents, badCount};
+ghost use Rattle.base.specs.Lists.{any, first, byte as byteAt};
+ghost use Rattle.term.specs.Number.{shapeOf};
+ghost use Rattle.submission.specs.Record.{letter, start, badContents, badCount};
 ghost use Rattle.submission.specs.Record.{terms as termCount, entries as entryCount, steps as stepCount, kindAt, xAt, yAt, entryAt, wayAt};
 ghost use Rattle.submission.specs.Computed.{areInverse};
 ghost use Rattle.submission.specs.Way.{wayOf, row, inRange, claimFits};
@@ -129,7 +129,7 @@ pub fn are_inverse(s: &[u8], i: u8, j: u8) -> bool
 
 // Whether a letter of the contents is wrong.
 fn is_letter_wrong(s: &[u8]) -> bool
-    ensures { λ r. ⌜ r ≡ any (wrongLetter (now (s .entry))) 4 ⌝ }
+    ensures { λ r. ⌜ r ≡ any (λ i. not (eqb (byteAt (now (s .entry)) (4 * i)) (letter i))) 4 ⌝ }
 {
     let letters = b"TKDV";
     let mut i = 0;
@@ -144,7 +144,7 @@ fn is_letter_wrong(s: &[u8]) -> bool
 
 // Whether a start of the contents is wrong.
 fn is_start_wrong(s: &[u8]) -> bool
-    ensures { λ r. ⌜ r ≡ any (wrongStart (now (s .entry))) 4 ⌝ }
+    ensures { λ r. ⌜ r ≡ any (λ i. not (eqb (byteAt (now (s .entry)) (4 * i + 2) * 256 + byteAt (now (s .entry)) (4 * i + 3)) (start (now (s .entry)) i))) 4 ⌝ }
 {
     if word(s, 2) != 16 {
         return true;

@@ -1,12 +1,12 @@
 -- The reductions as relations, and what the machine's step does: for any two heads that cancel, and for a pair and its parts.
 use mathlib.Core.Path.{_≡_, refl, ap, ap₂, sym, _∙_, subst}
 use mathlib.Core.Logic.{_⊎_, inl, inr, ⊎-elim, ite, Dec·and, if-pos}
-use mathlib.Core.Bool.{false≢true}
+use mathlib.Core.Bool.{false≢true, true, false}
 use native.Mathlib.Omega.{arith}
 use Prim.Native.Nat.{ℕ}
 use Rattle.base.proofs.Says.{Says}
 use Rattle.term.specs.{Term.Kind, Term.plain, Term.public, Term.private, Term.Cipher, Term.symmetric, Term.asymmetric, Term.Side, Term.left, Term.right, Term.Form, Term.pair, Term.encryption, Term.Head, Term.make, Term.part, Term.decrypt, Term.Term, Term.atom, Term.node, Computed.term?, Computed.head?, Term.isKey, Term.inverse, Term.Match, Term.Part}
-use Rattle.base.specs.Words.{truth}
+use Rattle.base.specs.Words.{ite}
 use Rattle.term.specs.Code.{Message}
 use Rattle.term.specs.Computed.{match?}
 use Rattle.term.specs.Reduce.{cancelled, paired, parted, op}
@@ -14,7 +14,7 @@ use Rattle.term.specs.Term.{pick}
 use Rattle.term.specs.Step.{Step}
 
 -- a decision as a test says what was decided
-pub says-test : {P : Type 0} (d : Dec P) → Says (truth d) P
+pub says-test : {P : Type 0} (d : Dec P) → Says (ite d true false) P
 says-test (yes p) = (λ e. p, λ x. refl)
 says-test (no f) = (λ e. absurd (false≢true e), λ x. absurd (f x))
 

@@ -13,8 +13,8 @@ use Rattle.base.specs.Lists.{grow, listed}
 use Rattle.base.proofs.Order.{lt-or-ge}
 use Rattle.base.proofs.Says.{Says}
 use Rattle.term.specs.{Term.symmetric, Term.asymmetric, Term.left, Term.right, Term.pair, Term.encryption, Term.Head, Term.make, Term.part, Term.decrypt, Computed.head?, Term.single}
-use Rattle.base.specs.Words.{truth}
-use Rattle.term.specs.Rule.{table, rules, isRule, heads, wordOf, headOf, hasOne}
+use Rattle.base.specs.Words.{ite}
+use Rattle.term.specs.Number.{table, rules, isRule, heads, wordOf, headOf, hasOne}
 use Rattle.term.specs.Code.{ruleOf}
 use Rattle.term.specs.Computed.{isHead, takesApart, ruleTakesApart}
 use Rattle.term.specs.Step.{takenBy, TakesApart}
@@ -99,7 +99,7 @@ rule-of b (some h) =
     ⊎-elim (λ l. rw (lt-ltb b rules l) (below (head? h (headOf b)) l))
     (λ l. rw (le-ltb b rules l, ne-eqb b (ruleOf h) (λ e. omega (arith, rule-below h)))) (lt-or-ge b rules)
   where
-    below : (d : Dec (h ≡ headOf b)) → b < rules → eqb b (ruleOf h) ≡ truth d
+    below : (d : Dec (h ≡ headOf b)) → b < rules → eqb b (ruleOf h) ≡ ite d true false
     below (yes e) l = eq-eqb b (ruleOf h) (sym (rule-head b l) ∙ sym (ap ruleOf e))
     below (no f) l = ne-eqb b (ruleOf h) (λ e. f (sym (head-rule h) ∙ sym (ap headOf e)))
 

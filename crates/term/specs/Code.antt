@@ -1,7 +1,7 @@
 -- What the code's enums and answers mean in document 01's terms, and notions that only proofs use.
 use Rattle.term.specs.declared.Relation.{Relation as RelationGiven}
 use Rattle.term.specs.declared.Relation.the-variants.{Equal, Inverse}
-use Rattle.term.specs.{Term.Relation, Term.equal, Term.inverses, Term.Second, Term.absent, Term.second, Term.unary, Term.make, Term.Shape, Term.atomic, Term.compound, Term.Head, Term.part, Term.decrypt, Computed.head?, Term.Term, Term.atom, Term.node, Term.Operands, Computed.place, Rule.rules, Rule.heads, Table.Rec, Table.leaf, Table.branch, Table.message}
+use Rattle.term.specs.{Term.Relation, Term.equal, Term.inverses, Term.Second, Term.absent, Term.second, Term.unary, Term.make, Term.Shape, Term.atomic, Term.compound, Term.Head, Term.part, Term.decrypt, Computed.head?, Term.Term, Term.atom, Term.node, Term.Operands, Computed.place, Number.rules, Number.heads, Table.Rec, Table.leaf, Table.branch, Table.message}
 use mathlib.Core.{Bool.Bool, Bool.false, Option.Option, Option.none, Option.some, Path._≡_}
 use Prim.Native.Nat.{ℕ, _<_}
 

@@ -1,8 +1,9 @@
 -- Decisions and tests of what the other files define; their types, or the laws `says-part`, `says-takes-apart` and `inverse-kinds-are`, say what
 -- they decide.
-use Rattle.base.specs.Words.{Dec·and, Bool, false, _||_, _&&_, cond, Option, none, some, List, [], _∷_, ℕ, suc, eqb, truth}
+use Rattle.base.specs.Words.{Dec·and, Bool, false, _||_, _&&_, cond, Option, none, some, List, [], _∷_, ℕ, suc, eqb, ite}
 use native.Mathlib.Decide.{ℕ-discrete}
-use Rattle.term.specs.{Term.Kind-discrete, Term.Cipher-discrete, Term.Side-discrete, Term.Form-discrete, Term.Head-discrete, Term.Term-discrete, Term.Shape-discrete, Term.plain, Term.public, Term.private, Term.Cipher, Term.symmetric, Term.asymmetric, Term.Head, Term.Term, Term.atom, Term.node, Term.Shape, Term.atomic, Term.isKey, Term.inverse, Term.Match, Kind.kinds, Step.takenBy, Rule.isRule, Rule.headOf}
+use Rattle.term.specs.{Term.Kind-discrete, Term.Cipher-discrete, Term.Side-discrete, Term.Form-discrete, Term.Head-discrete, Term.Term-discrete, Term.Shape-discrete, Term.plain, Term.public, Term.private, Term.Cipher, Term.symmetric, Term.asymmetric, Term.Head, Term.Term, Term.atom, Term.node, Term.Shape, Term.atomic, Term.isKey, Term.inverse, Term.Match, Number.kinds, Step.takenBy, Number.isRule, Number.headOf}
+use mathlib.Core.Bool.{true}
 
 abbrev pub head? : Discrete Head
 head? = Head-discrete (Form-discrete Cipher-discrete) Side-discrete Cipher-discrete
@@ -16,7 +17,7 @@ shape? = Shape-discrete Kind-discrete (Form-discrete Cipher-discrete)
 -- the place of an entry in a list
 abbrev pub place : {A : Type 0} → Discrete A → List A → A → ℕ
 place same [] x = 0
-place same (a ∷ l) x = cond (truth (same x a)) 0 (suc (place same l x))
+place same (a ∷ l) x = cond (ite (same x a) true false) 0 (suc (place same l x))
 
 -- the kind of a shape
 abbrev pub kindOf : Shape → ℕ
@@ -39,13 +40,13 @@ match? asymmetric k j = Dec·and (isKey? k) (term? j (inverse k))
 
 -- x is a part of t, as a test
 unfoldable pub isPart : Term → Term → Bool
-isPart x (atom κ n) = truth (term? x (atom κ n))
-isPart x (node h a b) = truth (term? x (node h a b)) || (isPart x a || isPart x b)
+isPart x (atom κ n) = ite (term? x (atom κ n)) true false
+isPart x (node h a b) = ite (term? x (node h a b)) true false || (isPart x a || isPart x b)
 
 -- the head h takes apart what the head b builds, computed
 abbrev pub isHead : Head → Option Head → Bool
 isHead b none = false
-isHead b (some h) = truth (head? h b)
+isHead b (some h) = ite (head? h b) true false
 
 abbrev pub takesApart : Head → Head → Bool
 takesApart h b = isHead b (takenBy h)

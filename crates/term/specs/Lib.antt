@@ -1,8 +1,7 @@
 pub mod Code
 pub mod Computed
-pub mod Kind
+pub mod Number
 pub mod Reduce
-pub mod Rule
 pub mod Step
 pub mod Table
 pub mod Term

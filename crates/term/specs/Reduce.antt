@@ -1,5 +1,4 @@
--- The machine's step over terms: document 01, 'Machine'.
--- "Each rule forms a term with its own head .. unless one of these reductions applies to it."
+-- The machine's step over terms: "Each rule forms a term with its own head .. unless one of these reductions applies to it."
 use Rattle.base.specs.Words.{ite, Dec·and}
 use Rattle.term.specs.{Term.Cipher, Term.Side, Term.left, Term.right, Term.pair, Term.encryption, Term.Head, Term.make, Term.part, Term.decrypt, Term.Term, Term.atom, Term.node, Computed.head?, Computed.term?, Term.pick, Computed.match?}
 

@@ -8,8 +8,7 @@ Step (make f) p q t = Operands (second f) p q × (t ≡ node (make f) p q)
 Step (part s) p q t = ((x y : Term) × (p ≡ node (make pair) x y) × (t ≡ pick s x y)) × (q ≡ p)
 Step (decrypt c) p q t = (k : Term) × (p ≡ node (make (encryption c)) t k) × Match c k q
 
--- "a finite list of such steps reaches it", each with its rule, premises and conclusion: the premises of each are in K or were concluded
--- earlier, and so is t
+-- "a finite list of such steps reaches it": the premises of each step, and t, are in K or were concluded earlier
 abbrev pub Reaches : (Term → Type 0) → List (Head × Term × Term × Term) → Term → Type 0
 Reaches K [] t = K t
 Reaches K ((h, p, q, c) ∷ ls) t = Step h p q c × K p × K q × Reaches (λ u. K u ⊎ (u ≡ c)) ls t

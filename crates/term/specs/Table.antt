@@ -1,5 +1,4 @@
--- A table of records: each is an atom, or a head over the numbers of two earlier records.
--- The submission's terms are such a table, and so are the terms that the machine holds.
+-- A table of records, each an atom or a head over the numbers of two earlier records, as the submission's terms are.
 use Rattle.base.specs.{Words.List, Words.[], Words.ℕ, Words.getD, Lists.grow}
 use Rattle.term.specs.Term.{Kind, plain, Head, Term, atom, node}
 

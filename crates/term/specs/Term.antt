@@ -1,6 +1,5 @@
--- Terms, keys and parts: document 01, 'The submission' and 'The register program'.
--- A term is an atom, or a head over its operands. The numbers of kinds and rules are in `Kind` and `Rule`.
-use Rattle.base.specs.Words.{_≡_, _⊎_, Bool, true, false, Option, none, some, ℕ, truth, Holds}
+-- Terms, keys and parts: document 01, 'The submission' and 'The register program'. The numbers of kinds and rules are in `Kind` and `Rule`.
+use Rattle.base.specs.Words.{_≡_, _⊎_, Bool, true, false, Option, none, some, ℕ, ite, Holds}
 
 -- "plain atom", "public key", "private key"
 pub data Kind : Type 0 where
@@ -106,7 +105,7 @@ isAtomic (some (compound f)) = false
 abbrev pub isKeyFor : Cipher → Option Shape → Bool
 isKeyFor c none = false
 isKeyFor c (some (compound f)) = false
-isKeyFor symmetric (some (atomic κ)) = truth (Kind-discrete κ plain)
+isKeyFor symmetric (some (atomic κ)) = ite (Kind-discrete κ plain) true false
 isKeyFor asymmetric (some (atomic κ)) = keyKind κ
 
 -- a term of this shape can be that operand

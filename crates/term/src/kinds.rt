@@ -3,7 +3,7 @@ use crate::rules;
 ghost use mathlib.Core.Path.{_≡_};
 ghost use mathlib.Core.Bool.{cond};
 ghost use Rattle.term.specs.Term.{asymmetric, isAtomic, isKeyFor, takes as takesShape};
-ghost use Rattle.term.specs.Kind.{shapeOf};
+ghost use Rattle.term.specs.Number.{shapeOf};
 ghost use Rattle.term.specs.Computed.{inverseKinds};
 ghost use Rattle.term.specs.Code.{isUnary, builderOf, secondOf};
 

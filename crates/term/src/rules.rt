@@ -1,6 +1,6 @@
 // The rules by their numbers, and what the table says of them.
 ghost use mathlib.Core.Path.{_≡_};
-ghost use Rattle.term.specs.Rule.{isRule, hasOne};
+ghost use Rattle.term.specs.Number.{isRule, hasOne};
 ghost use Rattle.term.specs.Computed.{ruleTakesApart};
 
 pub const PAIR: u8 = 0;

@@ -1,6 +1,6 @@
 -- What the program `verdict` prints, as bytes: document 01, after 'Marked examples'.
 use Rattle.base.specs.{Words.true, Words.false, Words.cond, Words.List, Words.[], Words._∷_, Words._++_, Words.ℕ, Words.zero, Words.suc, Words._+_, Words._/_, Words._%_, Words.ltb, Answer.Answer, Answer.done, Answer.refused}
-use Rattle.term.specs.Rule.{wordOf, hasOne}
+use Rattle.term.specs.Number.{wordOf, hasOne}
 use Rattle.program.specs.Program.{relationOf, relationWord, Instruction, instructionAt, testAt}
 
 -- a number in decimal, in ASCII; a number has fewer digits than itself and one

@@ -11,12 +11,12 @@ ghost use mathlib.Core.Bool.{cond};
 ghost use mathlib.Core.List.{[], _∷_};
 ghost use Prim.Native.Nat.{_+_, _<_};
 ghost use lib.Dec.{eqb};
-ghost use Rattle.term.specs.Rule.{wordOf};
+ghost use Rattle.term.specs.Number.{wordOf};
 ghost use Rattle.base.specs.Answer.{done};
 ghost use Rattle.program.specs.Program.{relationOf, relationWord};
 ghost use Rattle.program.specs.Program.{instructionAt, testAt};
 ghost use Rattle.text.specs.Text.{decimal, registerText, secondText, stepLine, stepLines, testLine, answerText, refusedText};
-ghost use Rattle.text.specs.Puts.{Puts};
+ghost use Rattle.text.specs.Calls.{Puts};
 
 // One byte; none where the buffer is full.
 fn put(out: &mut [u8], at: usize, b: u8) -> usize

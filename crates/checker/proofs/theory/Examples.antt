@@ -12,10 +12,10 @@ use Rattle.base.specs.Lists.{grow}
 use Rattle.term.specs.Table.{decoded}
 use Rattle.term.specs.Reduce.{op, cancelled, parted, paired}
 use Rattle.term.specs.Computed.{match?, isKey?}
-use Rattle.term.specs.Kind.{shapeOf}
-use Rattle.term.specs.Rule.{headOf, wordOf, hasOne}
+use Rattle.term.specs.Number.{shapeOf}
+use Rattle.term.specs.Number.{headOf, wordOf, hasOne}
 use Rattle.term.specs.Computed.{ruleTakesApart}
-use Rattle.base.specs.Answer.{Answer, done, refused}
+use Rattle.base.specs.Answer.{Answer, done, refused, pageAfter}
 use Rattle.submission.specs.Record.{start, badContents}
 use Rattle.submission.specs.{Record.recordAt, Record.term, Computed.areInverse}
 use Rattle.submission.specs.Way.{wayOf}
@@ -25,12 +25,12 @@ use Rattle.submission.specs.Record.{secondAt}
 use Rattle.derivation.specs.{Computed.badStep, Computed.unfounded, Step.checkSteps}
 use Rattle.deduction.specs.Computed.{builtWithin, round, rounds, entryMarks, isDeducible}
 use Rattle.program.specs.Program.{relationOf}
-use Rattle.program.specs.Program.{instructionBytes, bytesOf, instructionAt, testAt, badInstruction, badTest, badProgram}
+use Rattle.program.specs.Program.{instructionBytes, bytesOf, instructionAt, badInstruction, badTest, badProgram}
 use Rattle.machine.specs.Run.{guessed, initial, executed, registers, signals, signal, runAnswer}
 use Rattle.text.specs.Text.{digits, stepLine, testLine, stepLines, answerText}
 use Rattle.conditions.specs.Computed.{reachable, samePremises, undoesStep, undone}
 use Rattle.conditions.specs.Check.{checks1to10, checkAnswer}
-use Rattle.conditions.specs.Check.{lowest, instruction, program, pageChecked}
+use Rattle.conditions.specs.Check.{lowest, instruction, program}
 use Rattle.checker.specs.Calls.{verdictText}
 
 -- what is seen of a submission
@@ -285,9 +285,9 @@ abbrev pub got : Example → Outcome
 got e =
     record {
       answer = checkAnswer (e .bytes) (e .length);
-      page = pageChecked (e .bytes) (replicate (e .length) 0);
+      page = pageAfter (checkAnswer (e .bytes) (e .length)) (bytesOf (program (e .bytes))) (replicate (e .length) 0);
       text = verdictText (e .bytes);
-      signals = map (λ name. runAnswer (e .bytes) name (pageChecked (e .bytes) (replicate (e .length) 0))) (e .names);
+      signals = map (λ name. runAnswer (e .bytes) name (pageAfter (checkAnswer (e .bytes) (e .length)) (bytesOf (program (e .bytes))) (replicate (e .length) 0))) (e .names);
     }
 
 abbrev pub want : Example → Outcome
@@ -295,7 +295,7 @@ want e = e .wanted
 
 -- the one computed fact
 pub table-right : map got table ≡ map want table
-unfolding first firstFrom any grow decoded op cancelled parted paired match? isKey? headOf wordOf hasOne ruleTakesApart start badContents shapeOf recordAt term areInverse wayOf badTerm badKnowledge goodClaim checks1to4 checks1to5 registerTerm secondAt badStep unfounded checkSteps builtWithin round rounds entryMarks isDeducible relationOf instructionBytes bytesOf instructionAt badInstruction badTest badProgram guessed initial executed registers signals signal runAnswer reachable samePremises undoesStep undone checks1to10 checkAnswer lowest instruction program pageChecked digits stepLine testLine stepLines answerText verdictText Dec·and ℕ-discrete
+unfolding first firstFrom any grow decoded op cancelled parted paired match? isKey? headOf wordOf hasOne ruleTakesApart start badContents shapeOf recordAt term areInverse wayOf badTerm badKnowledge goodClaim checks1to4 checks1to5 registerTerm secondAt badStep unfounded checkSteps builtWithin round rounds entryMarks isDeducible relationOf instructionBytes bytesOf instructionAt badInstruction badTest badProgram guessed initial executed registers signals signal runAnswer reachable samePremises undoesStep undone checks1to10 checkAnswer lowest instruction program digits stepLine testLine stepLines answerText verdictText Dec·and ℕ-discrete
 table-right = refl
 
 -- what it says of each example

@@ -23,7 +23,7 @@ use Rattle.conditions.specs.declared.Verdict.the-variants.{Accepted, Refused}
 use Rattle.conditions.specs.Calls.{verdictAnswer, Checked}
 use Rattle.conditions.specs.Check.{checkAnswer}
 use Rattle.conditions.specs.Condition.{WellFormed, FiveConditions}
-use Rattle.conditions.specs.Check.{program, pageChecked}
+use Rattle.conditions.specs.Check.{program}
 use Rattle.conditions.specs.Demand.{WrongGuess}
 use Rattle.conditions.specs.Demand.{KeptPromise}
 use Rattle.conditions.proofs.theory.Acceptance.{accepted-iff}
@@ -47,7 +47,6 @@ module _ (s page page′ : List ℕ) (v : Verdict) (bytes : Bytes s) (call : Che
 
   -- Demand 3: after an acceptance the page holds the program, which tells the right guess from the wrong ones
   pub call-keeps : (n : ℕ) → v ≡ Accepted n → KeptPromise s page n page′
-  unfolding pageChecked
   call-keeps n e =
       subst (KeptPromise s page n) (sym (call .bytes)) (demand-3 s page bytes n (sym (call .answer) ∙ ap verdictAnswer e))
 

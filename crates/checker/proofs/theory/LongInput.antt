@@ -3,7 +3,7 @@
 use mathlib.Core.Path.{_≡_, sym, _∙_}
 use mathlib.Core.Bool.{true, not}
 use mathlib.Core.List.{List}
-use Prim.Native.Nat.{ℕ, _≤_, _<_}
+use Prim.Native.Nat.{ℕ, _≤_, _<_, _*_, _+_}
 use native.Mathlib.Omega.{arith}
 use lib.Dec.{eqb, ltb}
 use mathlib.Core.Logic.{by-cases}
@@ -11,11 +11,11 @@ use native.Mathlib.Decide.{decLt}
 use lib.ListN.{length, take, length-take, List·getD-eq-default}
 use lib.Seq.{getD-take}
 use borrow.Author.Tests.{ne-eqb}
-use Rattle.base.specs.Lists.{any}
+use Rattle.base.specs.Lists.{any, byte}
 use Rattle.base.proofs.BoolLaws.{or-right}
 use Rattle.base.specs.Answer.{refused}
 use Rattle.base.specs.Lists.{Bytes}
-use Rattle.submission.specs.Record.{start, wrongLetter, wrongStart, badContents}
+use Rattle.submission.specs.Record.{letter, start, badContents}
 use Rattle.submission.specs.Check.{checks1to4, checks1to5}
 use Rattle.text.specs.Text.{answerText, refusedText}
 use Rattle.conditions.specs.Check.{checks1to10, checkAnswer}
@@ -30,7 +30,8 @@ long-contents : (s : List ℕ) → Bytes s → 3076 < length s → badContents s
 unfolding badContents
 long-contents s b l =
     let e : not (eqb (length s) (start s 4)) ≡ true = rw (ne-eqb (length s) (start s 4) (λ e. let h = end-small s b in omega arith)) in
-    or-right (ltb (length s) 16) _ (or-right (any (wrongLetter s) 4) _ (or-right (any (wrongStart s) 4) _ e))
+    or-right (ltb (length s) 16) _ (or-right (any (λ i. not (eqb (byte s (4 * i)) (letter i))) 4) _
+    (or-right (any (λ i. not (eqb (byte s (4 * i + 2) * 256 + byte s (4 * i + 3)) (start s i))) 4) _ e))
 
 pub long-refused : (s : List ℕ) → Bytes s → 3076 < length s → (page : ℕ) → checkAnswer s page ≡ refused 1 0
 unfolding checkAnswer checks1to10 checks1to5 checks1to4

@@ -13,21 +13,21 @@ use Rattle.base.specs.Lists.{first, firstFrom, any}
 use Rattle.base.specs.Lists.{grow}
 use Rattle.term.specs.Computed.{isPart}
 use Rattle.term.specs.Table.{decoded}
-use Rattle.base.specs.Answer.{done}
+use Rattle.base.specs.Answer.{done, pageAfter}
 use Rattle.base.specs.Lists.{Bytes}
 use Rattle.submission.specs.Record.{start}
 use Rattle.submission.specs.Record.{guess, nameAt, term, recordAt}
-use Rattle.term.specs.Kind.{shapeOf}
-use Rattle.program.specs.Program.{programLength}
+use Rattle.term.specs.Number.{shapeOf}
+use Rattle.program.specs.Program.{programLength, bytesOf}
 use Rattle.submission.specs.Computed.{isKnownPart, isFresh}
 use Rattle.submission.proofs.theory.FreshLaws.{says-fresh}
 use Rattle.machine.specs.Run.{guessed, runAnswer}
-use Rattle.conditions.specs.Check.{pageChecked}
 use Rattle.conditions.specs.Demand.{WrongGuess}
 use Rattle.checker.proofs.theory.Examples.{Example, m1, m3, m8, got, want, example-right}
 use Rattle.conditions.proofs.theory.Acceptance.{accepted-iff}
 use Rattle.conditions.specs.Demand.{KeptPromise}
 use Rattle.conditions.proofs.theory.Promise.{demand-3}
+use Rattle.conditions.specs.Check.{checkAnswer, program}
 
 -- ---- the hypotheses as tests
 areBytes : List ℕ → Bool
@@ -54,7 +54,7 @@ is-wrong s name e =
 abbrev pub Shown : Example → ℕ → ℕ → Type 0
 Shown e n name =
     (page : List ℕ) → length page ≡ 388 →
-    KeptPromise (e .bytes) page n (pageChecked (e .bytes) page) × WrongGuess (e .bytes) name × (runAnswer (e .bytes) name (take (programLength n) (pageChecked (e .bytes) page)) ≡ done 0)
+    KeptPromise (e .bytes) page n (pageAfter (checkAnswer (e .bytes) (length page)) (bytesOf (program (e .bytes))) page) × WrongGuess (e .bytes) name × (runAnswer (e .bytes) name (take (programLength n) (pageAfter (checkAnswer (e .bytes) (length page)) (bytesOf (program (e .bytes))) page)) ≡ done 0)
 
 -- it is enough that the example is accepted with a shorter page, and that the tests say so
 shown : (e : Example) (n name : ℕ) → got e ≡ want e → e .wanted .answer ≡ done n → e .length ≤ 388 →
@@ -65,7 +65,7 @@ shown e n name g a l t page f =
     let b : Bytes s = are-bytes s u in
     let z : WrongGuess s name = is-wrong s name v in
     let (m, w, c, k) = accepted-iff s b (e .length) n .0 (ap (λ o. o .answer) g ∙ a) in
-    let p : KeptPromise s page n (pageChecked s page) = demand-3 s page b n (accepted-iff s b (length page) n .1 (m, w, c, omega arith)) in
+    let p : KeptPromise s page n (pageAfter (checkAnswer s (length page)) (bytesOf (program s)) page) = demand-3 s page b n (accepted-iff s b (length page) n .1 (m, w, c, omega arith)) in
     (p, z, p .wrong name z)
 
 -- one example for each way

@@ -10,7 +10,7 @@ use native.Mathlib.Omega.{arith}
 use lib.Dec.{eqb}
 use Rattle.base.proofs.Says.{Says, says-eqb, says-and, says-or, says-not, denies, or-false, and-false}
 use Rattle.term.specs.Term.{Term}
-use Rattle.term.specs.Rule.{headOf}
+use Rattle.term.specs.Number.{headOf}
 use Rattle.term.specs.Step.{Deducible, Undoes}
 use Rattle.term.proofs.Rule.{head-inj, says-takes-apart}
 use Rattle.submission.specs.Record.{terms, steps, ruleAt, pAt, conclusionAt, entryAt, guess, verifying, wayAt, companion, term, InKnowledge}

@@ -5,14 +5,14 @@ use mathlib.Core.List.{List, _++_}
 use Prim.Native.Nat.{ℕ}
 use lib.ListN.{length, take, drop}
 use lib.Seq.{take-at, drop-at}
-use Rattle.base.specs.Answer.{done}
+use Rattle.base.specs.Answer.{done, pageAfter}
 use Rattle.base.specs.Lists.{Bytes}
 use Rattle.submission.specs.Record.{steps, guess, nameAt}
 use Rattle.program.specs.Program.{bytesOf, programLength}
 use Rattle.machine.specs.Run.{signal, runAnswer}
 use Rattle.conditions.specs.Check.{checkAnswer}
 use Rattle.conditions.specs.Condition.{WellFormed, FiveConditions}
-use Rattle.conditions.specs.Check.{program, pageChecked}
+use Rattle.conditions.specs.Check.{program}
 use Rattle.conditions.specs.Demand.{Demand3, EveryGoodAccepted}
 use Rattle.conditions.proofs.theory.Acceptance.{accepted-iff}
 use Rattle.conditions.proofs.theory.ProgramRun.{program-bytes}
@@ -20,8 +20,7 @@ use Rattle.conditions.proofs.theory.Signal.{program-good, right-signal,
 
 -- the page of an acceptance
 page-accepted : (s page : List ℕ) (n : ℕ) → checkAnswer s (length page) ≡ done n →
-    pageChecked s page ≡ bytesOf (program s) ++ drop (length (bytesOf (program s))) page
-unfolding pageChecked
+    pageAfter (checkAnswer s (length page)) (bytesOf (program s)) page ≡ bytesOf (program s) ++ drop (length (bytesOf (program s))) page
 page-accepted s page n e = rw e
 
 -- run takes the program
@@ -36,7 +35,7 @@ demand-3 s page b n e =
     let (f, w, c, l) = accepted-iff s b (length page) n .0 e in
     let g : length (bytesOf (program s)) ≡ programLength n = program-bytes s ∙ ap programLength (sym f) in
     let p = page-accepted s page n e in
-    let t : take (programLength n) (pageChecked s page) ≡ bytesOf (program s) = ap (take (programLength n)) p ∙ take-at (bytesOf (program s)) _ (programLength n) g in
+    let t : take (programLength n) (pageAfter (checkAnswer s (length page)) (bytesOf (program s)) page) ≡ bytesOf (program s) = ap (take (programLength n)) p ∙ take-at (bytesOf (program s)) _ (programLength n) g in
     record {
       program = t;
       rest = ap (drop (programLength n)) p ∙ drop-at (bytesOf (program s)) _ (programLength n) g ∙ ap (λ k. drop k page) g;

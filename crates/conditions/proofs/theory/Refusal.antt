@@ -21,7 +21,7 @@ use Rattle.program.specs.Program.{bytesOf, programLength, badProgram}
 use Rattle.machine.specs.Run.{signal, runAnswer}
 use Rattle.conditions.specs.Computed.{reachable, hasSecondWay, undone}
 use Rattle.conditions.specs.Check.{checks1to10, checkAnswer}
-use Rattle.conditions.specs.Check.{program, pageChecked}
+use Rattle.conditions.specs.Check.{program}
 
 -- ---- the checks' numbers, for whatever holds of 1 to n
 abbrev UpTo : (ℕ → Type 0) → ℕ → Type 0
@@ -79,6 +79,5 @@ run-refusals s name P number place =
     (then-with (checks1to5 s) (failsIf (badProgram s P) 13 0) (five s (λ k a b. inl (a, b))) (if-with (badProgram s P) 13 0 (inr refl)))
 
 -- "Every refusal carries number and place, and the page keeps its bytes."
-pub refused-page : (s page : List ℕ) (number place : ℕ) → checkAnswer s (length page) ≡ refused number place → pageChecked s page ≡ page
-unfolding pageChecked
+pub refused-page : (s page : List ℕ) (number place : ℕ) → checkAnswer s (length page) ≡ refused number place → pageAfter (checkAnswer s (length page)) (bytesOf (program s)) page ≡ page
 refused-page s page number place e = ap (λ a. pageAfter a (bytesOf (program s)) page) e

@@ -15,7 +15,7 @@ use Rattle.base.proofs.Order.{lt-or-ge}
 use Rattle.base.proofs.Says.{says-and, says-true, denies}
 use Rattle.term.specs.Term.{Head, Term, atom, single, isKey, inverse}
 use Rattle.term.specs.Reduce.{op}
-use Rattle.term.specs.Rule.{rules, hasOne}
+use Rattle.term.specs.Number.{rules, hasOne}
 use Rattle.term.specs.Step.{Undoes}
 use Rattle.term.proofs.Reduce.{step-op}
 use Rattle.term.proofs.Reach.{Reach, known, reach-iff}

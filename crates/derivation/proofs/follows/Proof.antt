@@ -1,6 +1,6 @@
 -- `follows` is the table of steps: each arm is its rule's row.
 use Rattle.derivation.proofs.StepShapeTests.{dec-built, rule-built}
-use Rattle.term.specs.Rule.{headOf}
+use Rattle.term.specs.Number.{headOf}
 use borrow.Author.Needs.{needs}
 use Rattle.derivation.proofs.follows.Statement.{statement}
 use Rattle.derivation.proofs.follows.Tie as tie

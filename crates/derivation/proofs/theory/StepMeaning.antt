@@ -11,7 +11,7 @@ use Rattle.term.specs.Term.{Cipher, symmetric, asymmetric, Side, left, right, F
 use Rattle.term.specs.Code.{Message}
 use Rattle.term.specs.Computed.{kindOf}
 use Rattle.term.specs.Step.{Step}
-use Rattle.term.specs.Rule.{rules, headOf, hasOne}
+use Rattle.term.specs.Number.{rules, headOf, hasOne}
 use Rattle.base.specs.Answer.{passes}
 use Rattle.submission.specs.Record.{terms, steps, kindAt, xAt, yAt, ruleAt, pAt, qAt, conclusionAt, term}
 use Rattle.base.proofs.AnswerLaws.{fails-not-passes}

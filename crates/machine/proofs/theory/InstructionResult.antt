@@ -12,7 +12,7 @@ use Rattle.term.specs.Term.{Side, pair, encryption, Head, make, part, decrypt, 
 use Rattle.term.specs.Table.{void}
 use Rattle.term.specs.Reduce.{op, cancelled}
 use Rattle.term.specs.Term.{pick}
-use Rattle.term.specs.Rule.{rules, headOf}
+use Rattle.term.specs.Number.{rules, headOf}
 use Rattle.term.specs.Code.{ruleOf}
 use Rattle.term.proofs.Numbered.{Apart}
 use Rattle.term.proofs.Rule.{head-rule}

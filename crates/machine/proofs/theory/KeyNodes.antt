@@ -1,6 +1,6 @@
 -- Keys of opposite operations, by their nodes.
 use mathlib.Core.Path.{_≡_, refl, sym, ap, _∙_, subst}
-use mathlib.Core.Bool.{Bool}
+use mathlib.Core.Bool.{Bool, true, false}
 use mathlib.Core.Logic.{_⊎_, inl, inr, ⊎-elim}
 use Prim.Native.Nat.{ℕ, _<_}
 use lib.Dec.{eqb}
@@ -8,7 +8,7 @@ use borrow.Author.Tests.{eq-eqb, eqb-true}
 use Rattle.base.proofs.Says.{Says, says-eqb, says-and, says-or, same-test}
 use Rattle.term.specs.Term as words
 use Rattle.term.specs.{Term.Kind, Term.plain, Term.public, Term.private, Term.otherKind, Term.symmetric, Term.asymmetric, Term.Term, Term.atom, Term.node, Term.inverse, Term.isKey, Computed.term?, Term.Match}
-use Rattle.base.specs.Words.{truth}
+use Rattle.base.specs.Words.{ite}
 use Rattle.term.specs.Computed.{match?}
 use Rattle.term.proofs.Reduce.{says-test}
 use Rattle.term.proofs.Table.{decode-inj}
@@ -24,8 +24,8 @@ cipherOf Symmetric = symmetric
 cipherOf Asymmetric = asymmetric
 
 -- a test that says what was decided is that decision
-decided : {P : Type 0} {b : Bool} (d : Dec P) → Says b P → b ≡ truth d
-decided {b = b} d w = same-test b (truth d) w (says-test d)
+decided : {P : Type 0} {b : Bool} (d : Dec P) → Says b P → b ≡ ite d true false
+decided {b = b} d w = same-test b (ite d true false) w (says-test d)
 
 -- the nodes of keys of one name, one public and one private
 abbrev InverseHeads : Node → Node → Type 0
@@ -38,7 +38,7 @@ says-heads x y =
     says-and _ _ (says-or _ _ (says-and _ _ (says-eqb _ _) (says-eqb _ _)) (says-and _ _ (says-eqb _ _) (says-eqb _ _))) (says-eqb _ _)
 
 module _ {m : Machine} {k j : ℕ} (w : SoundState m) (l : k < m .nodes) (n : j < m .nodes) where
-  pub one-term : eqb k j ≡ truth (term? (termAt m j) (termAt m k))
+  pub one-term : eqb k j ≡ ite (term? (termAt m j) (termAt m k)) true false
   one-term = decided (term? _ _) (λ e. sym (ap (termAt m) (eqb-true k j e)), λ u. eq-eqb k j (sym (decode-inj (w .table) j k n l u)))
 
   -- a key's node, and its inverse's
@@ -66,10 +66,10 @@ module _ {m : Machine} {k j : ℕ} (w : SoundState m) (l : k < m .nodes) (n : j 
         λ u. s .1 (heads-of (termAt m k) refl (u .0) (u .1)),
       )
 
-  pub inverse-keys : {x y : Node} → x ≡ nodeIn m k → y ≡ nodeIn m j → inverseNodes x y ≡ truth (match? asymmetric (termAt m k) (termAt m j))
+  pub inverse-keys : {x y : Node} → x ≡ nodeIn m k → y ≡ nodeIn m j → inverseNodes x y ≡ ite (match? asymmetric (termAt m k) (termAt m j)) true false
   inverse-keys e g = rw (e, g) (decided (match? asymmetric _ _) says-inverse)
 
-  pub keys-match : (c : Cipher) {x y : Node} → x ≡ nodeIn m k → y ≡ nodeIn m j → matchNodes c k j x y ≡ truth (match? (cipherOf c) (termAt m k) (termAt m j))
+  pub keys-match : (c : Cipher) {x y : Node} → x ≡ nodeIn m k → y ≡ nodeIn m j → matchNodes c k j x y ≡ ite (match? (cipherOf c) (termAt m k) (termAt m j)) true false
   keys-match Symmetric e g = decided (match? symmetric _ _) (λ e. sym (ap (termAt m) (eqb-true k j e)), λ u. eq-eqb k j (sym (decode-inj (w .table) j k n l u)))
   keys-match Asymmetric e g = inverse-keys e g
 

@@ -4,7 +4,7 @@ use Prim.Native.Nat.{ℕ, _<_}
 use native.Mathlib.Omega.{arith}
 use borrow.Author.Tests.{lt-ltb}
 use Rattle.term.specs.Term.{Kind, plain, public, private, Head, Term, atom, node}
-use Rattle.term.specs.Kind.{shapeOf}
+use Rattle.term.specs.Number.{shapeOf}
 use Rattle.term.specs.Table.{Rec, leaf, branch, message}
 use Rattle.term.specs.Code.{ruleOf}
 use Rattle.term.proofs.Rule.{head-rule, rule-below}

@@ -10,13 +10,13 @@ use borrow.Author.Tests.{lt-ltb, eq-eqb, ne-eqb}
 use Rattle.base.specs.Lists.{grow}
 use Rattle.base.proofs.Says.{Says, says-true, says-eqb, says-and, denies}
 use Rattle.term.specs.{Term.Cipher, Term.symmetric, Term.asymmetric, Term.Side, Term.left, Term.right, Term.pair, Term.encryption, Term.Head, Term.make, Term.part, Term.decrypt, Term.Term, Term.atom, Term.node, Computed.head?, Computed.term?, Term.Match}
-use Rattle.base.specs.Words.{truth}
+use Rattle.base.specs.Words.{ite}
 use Rattle.term.specs.Table.{Rec, leaf, branch, message}
 use Rattle.term.specs.Code.{Below}
 use Rattle.term.specs.Computed.{match?}
 use Rattle.term.specs.Reduce.{cancelled, paired, parted, op}
 use Rattle.term.specs.Term.{pick}
-use Rattle.term.specs.Rule.{rules, headOf}
+use Rattle.term.specs.Number.{rules, headOf}
 use Rattle.term.specs.Code.{ruleOf}
 use Rattle.term.proofs.Reduce.{says-test}
 use Rattle.term.proofs.Numbered.{same-below, Apart, Arms, choice}
@@ -143,7 +143,7 @@ module _ (c : CipherRead) (g h : Head) (steps : (a b : Term) → op h a b ≡ ca
       r ≡ when (eqb (x .head) (ruleOf g) && matchNodes c (x .right) b k y) (x .left) → Reduct m h a b r
   cancel-reduct {m} {a} {b} {x} {k} {y} w e f i q = rw q (when-reduct _ _ here other)
     where
-      match-is : x .head ≡ ruleOf g → matchNodes c (x .right) b k y ≡ truth (match? (cipherOf c) (termAt m (x .right)) (termAt m b))
+      match-is : x .head ≡ ruleOf g → matchNodes c (x .right) b k y ≡ ite (match? (cipherOf c) (termAt m (x .right)) (termAt m b)) true false
       match-is u = keys-match (w .sound) (right-below g (w .sound) (w .left) e u) (w .right) c f i
 
       here : (eqb (x .head) (ruleOf g) && matchNodes c (x .right) b k y) ≡ true → (x .left < m .nodes) × (op h (termAt m a) (termAt m b) ≡ termAt m (x .left))

@@ -13,7 +13,7 @@ use borrow.Author.Count.{below-more}
 use Rattle.base.specs.Lists.{grow}
 use Rattle.base.proofs.Grow.{length-listed}
 use Rattle.term.specs.Term.{Kind, plain, public, private, Shape, atomic, compound, isAtomic, atom}
-use Rattle.term.specs.{Kind.shapeOf, Computed.kindOf}
+use Rattle.term.specs.{Number.shapeOf, Computed.kindOf}
 use Rattle.term.specs.Code.{isUnary, builderOf}
 use Rattle.term.proofs.Kind.{shape-kind}
 use Rattle.term.specs.Table.{leaf, message, void, decoded}

@@ -12,7 +12,7 @@ use Rattle.base.specs.Lists.{any}
 use Rattle.base.proofs.First.{Passed}
 use Rattle.base.proofs.Scan.{true-any, false-any}
 use Rattle.base.proofs.Says.{says-true, says-ltb, says-and, says-any, denies, not-not-false, or-false}
-use Rattle.term.specs.Rule.{rules, isRule, hasOne}
+use Rattle.term.specs.Number.{rules, isRule, hasOne}
 use Rattle.base.specs.Lists.{byte}
 use Rattle.submission.specs.Record.{entries}
 use Rattle.term.specs.Term.{Relation}
@@ -22,7 +22,7 @@ use Rattle.program.specs.declared.Asked.{Asked}
 use Rattle.program.specs.declared.Asked.the-variants.{Asks, Nothing}
 use Rattle.program.specs.Code.{relationIn, asked}
 use Rattle.program.specs.Program.{rowOf, relationOf}
-use Rattle.program.specs.Program.{Instruction, programLength, instructionAt, testAt, operand, goodRegisters, badInstruction, badFor, badTest, badProgram}
+use Rattle.program.specs.Program.{Instruction, programLength, instructionAt, testAt, operand, goodRegisters, badInstruction, badTest, badProgram}
 
 -- ---- registers, where n are written
 module _ {n x a : ℕ} (b : ℕ) (one : Bool) (e : x ≡ a) where
@@ -48,11 +48,11 @@ module _ (n : ℕ) (i : Instruction) where
 module _ (n : ℕ) (t : Instruction) {o : Asked} (e : relationIn o ≡ relationOf (t .rule)) where
   pub bad-letter : o ≡ Nothing → true ≡ badTest n t
   unfolding badTest
-  bad-letter h = let z : relationOf (t .rule) ≡ none = sym e ∙ ap relationIn h in rw z
+  bad-letter h = let z : relationOf (t .rule) ≡ none = sym e ∙ ap relationIn h in rw (z, badTest)
 
   pub bad-registers : {x : RelationGiven} {k : ℕ} {r : Bool} → o ≡ Asks x → k ≡ rowOf (relationIs x) .registers → r ≡ goodRegisters n (eqb k 1) (t .left) (t .right) → not r ≡ badTest n t
   unfolding badTest
-  bad-registers h f g = let z = sym e ∙ ap relationIn h in rw (g, z, f)
+  bad-registers h f g = let z = sym e ∙ ap relationIn h in rw (g, z, f, badTest)
 
 -- ---- the instructions of the program P, where k registers hold the knowledge
 abbrev pub badAt : ℕ → List ℕ → ℕ → Bool
@@ -122,7 +122,8 @@ pub good-test : (n : ℕ) (t : Instruction) → badTest n t ≡ false → (r : R
 unfolding badTest
 good-test n t e = go (relationOf (t .rule)) refl e
   where
-    go : (o : Option Relation) → relationOf (t .rule) ≡ o → badFor n t o ≡ false → (r : Relation) × (relationOf (t .rule) ≡ some r) × (t .left < n) × (t .right < n)
+    go : (o : Option Relation) → relationOf (t .rule) ≡ o →
+        elim o [ none ↦ true | some r ↦ not (goodRegisters n (eqb (rowOf r .registers) 1) (t .left) (t .right)) ] ≡ false → (r : Relation) × (relationOf (t .rule) ≡ some r) × (t .left < n) × (t .right < n)
     go none f e = absurd (true≢false e)
     go (some r) f e = let (a, b) = good-registers n (eqb (rowOf r .registers) 1) (t .left) (t .right) (not-not-false _ .0 e) in (r, f, a, b)
 

@@ -1,14 +1,17 @@
 -- `is_letter_wrong` meets its contract: the letters before i are right.
-use Prim.Native.Nat.{_-_}
+use Prim.Native.Nat.{_-_, _*_}
+use mathlib.Core.Bool.{not}
+use lib.Dec.{eqb}
+use Rattle.base.specs.Lists.{byte}
 use Rattle.base.proofs.Scan.{scan}
 use Rattle.submission.proofs.ContentsTests.{letter-wrong, letter-right}
 use Rattle.base.proofs.First.{Passed}
-use Rattle.submission.specs.Record.{wrongLetter}
+use Rattle.submission.specs.Record.{letter}
 use Rattle.submission.proofs.is_letter_wrong.Statement.{statement}
 use Rattle.submission.proofs.is_letter_wrong.Tie as tie
 
 abbrev Inv-loop : tie.InvT-loop
-Inv-loop s letters i₀ i = Passed (wrongLetter s) 4 i
+Inv-loop s letters i₀ i = Passed (λ k. not (eqb (byte s (4 * k)) (letter k))) 4 i
 
 abbrev μ-loop : tie.MeasureT-loop
 μ-loop s letters i₀ i = 4 - i

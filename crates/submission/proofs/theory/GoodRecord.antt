@@ -8,7 +8,7 @@ use native.Mathlib.Omega.{arith}
 use lib.Dec.{eqb, ltb}
 use Rattle.base.proofs.Says.{Says, says-true, says-eqb, says-ltb, says-and, says-any, denies, not-not-false, or-false}
 use Rattle.term.specs.Term.{Form, Second, absent, anything, keyFor, second, unary, Shape, atomic, compound, isKeyFor, takes}
-use Rattle.term.specs.Kind.{shapeOf}
+use Rattle.term.specs.Number.{shapeOf}
 use Rattle.submission.specs.Record.{kindAt, xAt, yAt, nameAt, recordOf}
 use Rattle.submission.specs.Check.{shapeFits, sameRecord, badTerm}
 

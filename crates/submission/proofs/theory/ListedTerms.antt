@@ -13,7 +13,7 @@ use Rattle.base.proofs.Order.{lt-or-ge}
 use Rattle.base.proofs.Says.{Says, says-true, says-eqb, says-ltb, says-and, says-or, not-not-false, or-false, none-fails}
 use Rattle.term.specs.Term.{Kind, plain, public, private, otherKind, asymmetric, Form, Second, absent, anything, keyFor, second, unary, make, Term, atom, node, isKey, inverse, Match, Shape, atomic, compound, shape, isAtomic, isKeyFor, Operands}
 use Rattle.term.specs.Code.{Message}
-use Rattle.term.specs.{Kind.shapeOf, Computed.kindOf, Computed.inverseKinds}
+use Rattle.term.specs.{Number.shapeOf, Computed.kindOf, Computed.inverseKinds}
 use Rattle.term.proofs.Kind.{kind-shape, shape-kind}
 use Rattle.term.specs.Table.{branch, message}
 use Rattle.term.specs.Code.{Below, Table}

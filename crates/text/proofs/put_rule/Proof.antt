@@ -1,6 +1,6 @@
 -- The table of words is the rules' column, computed once.
 use Rattle.base.specs.Lists.{grow}
-use Rattle.term.specs.Rule.{wordOf}
+use Rattle.term.specs.Number.{wordOf}
 use Rattle.text.proofs.LineReturns.{no-rule-put, rule-put}
 use borrow.Author.Needs.{needs}
 use Rattle.text.proofs.put_rule.Statement.{statement}

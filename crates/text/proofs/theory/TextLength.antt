@@ -9,7 +9,7 @@ use native.Mathlib.Nat.{pow-suc, le-trans}
 use native.Mathlib.Omega.{arith}
 use lib.ListN.{length, take, length-append}
 use Rattle.base.proofs.Order.{lt-or-ge}
-use Rattle.term.specs.Rule.{hasOne}
+use Rattle.term.specs.Number.{hasOne}
 use Rattle.term.proofs.Rule.{word-length}
 use Rattle.base.specs.Answer.{done}
 use Rattle.base.specs.Lists.{byte, Bytes}
@@ -17,7 +17,7 @@ use Rattle.term.specs.Term.{Relation, equal, inverses}
 use Rattle.program.specs.Program.{relationOf, relationWord}
 use Rattle.program.specs.Program.{Instruction, instructionAt, testAt}
 use Rattle.text.specs.Text.{digits, registerText, secondText, stepLine, stepLines, testLine, refusedText, answerText}
-use Rattle.text.specs.Puts.{Puts}
+use Rattle.text.specs.Calls.{Puts}
 use Rattle.text.proofs.theory.PutLaws.{puts-whole}
 use Rattle.text.proofs.theory.Decimal.{digits-one, digits-more}
 

@@ -1,4 +1,4 @@
--- What the code's results mean: a text put into a buffer.
+-- What the calls that write a text promise.
 use Rattle.base.specs.Words.{_≡_, List, ℕ, _+_, _-_, min, length, sets}
 
 -- the text is stored in the buffer old from place i on, as far as the buffer reaches: new is the buffer afterwards, j the place reached

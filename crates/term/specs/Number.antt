@@ -1,6 +1,22 @@
--- The rules' numbers and words: document 01, the table of 'Dolev-Yao steps'. This is the one place that lists them.
-use Rattle.base.specs.Words.{Bool, List, [], _∷_, map, ℕ, ltb, length, getD}
-use Rattle.term.specs.Term.{symmetric, asymmetric, left, right, pair, encryption, Head, make, part, decrypt, single}
+-- The numbers of kinds, and the numbers and words of rules: document 01, 'Terms' and the table of 'Dolev-Yao steps'. No other place lists them.
+use Rattle.base.specs.Words.{Bool, List, [], _∷_, map, getElem?, Option, none, ℕ, zero, suc, ltb, length, getD}
+use Rattle.term.specs.Term.{plain, public, private, symmetric, asymmetric, left, right, pair, encryption, Shape, atomic, compound, Head, make, part, decrypt, single}
+
+-- "Kinds 1 plain atom, 2 public key, 3 private key .. Kind 4 pair(x, y); 5 enc(x, y) ..; 6 enca(x, y)"
+abbrev pub kinds : List Shape
+kinds =
+    atomic plain
+    ∷ atomic public
+    ∷ atomic private
+    ∷ compound pair
+    ∷ compound (encryption symmetric)
+    ∷ compound (encryption asymmetric)
+    ∷ []
+
+-- kinds count from 1
+unfoldable pub shapeOf : ℕ → Option Shape
+shapeOf zero = none
+shapeOf (suc n) = getElem? kinds n
 
 -- rules 0 to 6, with the words pair, fst, snd, enc, dec, enca, deca in ASCII
 abbrev pub table : List (Head × List ℕ)
