@@ -5,13 +5,12 @@ use mathlib.Core.List.{List}
 use Prim.Native.Nat.{ℕ, _<_, _≤_}
 use mir.Syntax.{w8}
 use mir.Val.{Fits}
-use Rattle.base.specs.Lists.{first}
+use Rattle.base.specs.Lists.{first, byte, Bytes}
 use Rattle.base.proofs.First.{Passed, passed-hit, passed-all}
 use Rattle.base.specs.declared.Stage.{Stage}
 use Rattle.base.specs.declared.Stage.the-variants.{Refused}
 use Rattle.base.specs.declared.Stage.the-variants as stage
 use Rattle.base.specs.Answer.{done, refused, Check, passes, fails, failsAt, failsIf, andThen, answered}
-use Rattle.base.specs.Lists.{byte, Bytes}
 use Rattle.base.specs.Code.{checkOf}
 
 -- a scan: its bound and the place were returned by calls, and are k and i

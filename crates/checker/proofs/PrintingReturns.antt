@@ -14,9 +14,8 @@ use Rattle.text.proofs.theory.TextLength.{accepted-whole, refused-whole}
 use Rattle.conditions.specs.declared.Verdict.{Verdict}
 use Rattle.conditions.specs.declared.Verdict.the-variants.{Accepted, Refused}
 use Rattle.conditions.specs.Check.{checkAnswer}
-use Rattle.checker.specs.Calls.{verdictText}
+use Rattle.checker.specs.Calls.{verdictText, Printed}
 use Rattle.conditions.specs.Calls.{verdictAnswer, Checked}
-use Rattle.checker.specs.Calls.{Printed}
 use Rattle.conditions.proofs.theory.Acceptance.{accepted-iff}
 
 module _ (s : List ℕ) {page : List ℕ} (v : Verdict) (c : Checked s (replicate 388 0) v page) where

@@ -9,13 +9,12 @@ use borrow.Author.Tests.{lt-ltb, le-ltb, ltb-false}
 use Rattle.submission.specs.declared.Claim.{Claim}
 use Rattle.submission.specs.declared.Reading.{Reading}
 use Rattle.submission.specs.declared.Reading.the-variants.{Good, Refused as ReadingRefused}
-use Rattle.submission.specs.Code.{IsClaim, readingCheck, ReadingIs}
+use Rattle.submission.specs.Code.{IsClaim, readingCheck, ReadingIs, Limited}
 use Rattle.base.specs.declared.Stage.{Stage}
 use Rattle.base.specs.declared.Stage.the-variants as stage
-use Rattle.base.specs.Answer.{Answer, done, refused, Check, passes, fails, andThen, answered, failsIf, failsAt}
-use Rattle.base.specs.Lists.{byte, first}
-use Rattle.submission.specs.Code.{Limited}
-use Rattle.submission.specs.Record.{steps, verifying, wayAt}
+use Rattle.base.specs.Answer.{Answer, done, refused, Check, passes, fails, andThen, answered, failsIf}
+use Rattle.base.specs.Lists.{byte}
+use Rattle.submission.specs.Record.{steps}
 use Rattle.submission.specs.Check.{checks1to5}
 use Rattle.base.specs.Code.{checkOf}
 use Rattle.base.proofs.AnswerLaws.{if-passes}
@@ -27,15 +26,11 @@ use Rattle.derivation.specs.Code.{Registered, StepsChecked}
 use Rattle.program.specs.Program.{bytesOf, programLength}
 use Rattle.conditions.specs.declared.Verdict.{Verdict}
 use Rattle.conditions.specs.declared.Verdict.the-variants.{Accepted, Refused}
-use Rattle.conditions.specs.Check.{checks1to10, checkAnswer}
-use Rattle.conditions.specs.Check.{program}
+use Rattle.conditions.specs.Check.{checks1to10, checkAnswer, checks8to10, program}
 use Rattle.conditions.specs.Calls.{verdictAnswer, Checked}
 use Rattle.conditions.specs.Code.{Founded, Acceptable}
 use Rattle.conditions.proofs.theory.ProgramRun.{program-bytes}
-use Rattle.conditions.specs.Computed.{reachable, hasSecondWay, undone}
 use lib.Dec.{ltb}
-use mathlib.Core.Bool.{not}
-use Rattle.submission.specs.Way.{wayOf}
 
 -- ---- check 11
 module _ (s page : List ℕ) {n k : ℕ} (e : n ≡ steps s) (f : k ≡ programLength n) where
@@ -103,7 +98,7 @@ module _ (s : List ℕ) {r : Reading} (reading : ReadingIs s (checks1to5 s) r) w
         pub steps-founded : ((i : ℕ) → Fits w8 (byte s i)) → Founded s
         steps-founded f = record { bytes = bytes s f; read = reading-passes; founded = stage-passes _ (each .answer) passed }
 
-        module _ {t : Stage} (conditions : checkOf t ≡ andThen (failsIf (reachable s) 8 (verifying s)) (andThen (failsIf (not (hasSecondWay s (wayOf (wayAt s)))) 9 (verifying s)) (failsAt 10 (first (undone s) (steps s))))) where
+        module _ {t : Stage} (conditions : checkOf t ≡ checks8to10 s) where
           pub conditions-out : (page : List ℕ) (n : ℕ) {a b : ℕ} (v : Verdict) → t ≡ stage.Refused a b → verdictAnswer v ≡ answered (checkOf t) (done n) → Checked s page v page
           unfolding all checks1to10
           conditions-out page n {a} {b} v q f =

@@ -7,16 +7,14 @@ use Rattle.base.proofs.Says.{not-not-false}
 use Rattle.term.specs.Number.{hasOne}
 use Rattle.submission.specs.declared.Claim.{Claim}
 use Rattle.base.specs.Answer.{fails, failsIf, failsAt}
-use Rattle.submission.specs.Code.{Limited}
-use Rattle.submission.specs.Record.{terms, steps, verifying, wayAt}
+use Rattle.submission.specs.Code.{Limited, IsClaim}
+use Rattle.submission.specs.Record.{terms, steps, verifying, wayAt, secondAt}
 use Rattle.submission.specs.Way.{wayOf}
 use Rattle.submission.specs.Check.{checks1to5}
-use Rattle.submission.specs.Code.{IsClaim}
 use Rattle.base.proofs.AnswerLaws.{then-passes, if-passes}
 use Rattle.submission.proofs.PassedChecks.{limited, body-passes}
 use Rattle.submission.proofs.theory.ListedTerms.{Claimed, claimed}
 use Rattle.derivation.specs.declared.Step.{Step}
-use Rattle.submission.specs.Record.{secondAt}
 use Rattle.derivation.specs.Step.{checkSteps, StepFits}
 use Rattle.derivation.specs.Code.{IsStep}
 use Rattle.derivation.proofs.theory.StepMeaning.{second-listed, fits-iff, steps-pass}

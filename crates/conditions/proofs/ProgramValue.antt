@@ -16,7 +16,7 @@ use Rattle.submission.specs.declared.Operand.the-variants.{VerifyingResult, Com
 use Rattle.submission.specs.Way.{Way, another-step, at-start, inverse-key, wayOf, row}
 use Rattle.submission.specs.Code.{wayIs, operandIs, rowIs, IsClaim}
 use Rattle.term.specs.Code.{relationIs}
-use Rattle.program.specs.Program.{rowOf}
+use Rattle.program.specs.Program.{rowOf, bytesOf, programLength}
 use Rattle.derivation.specs.declared.Step.{Step}
 use Rattle.derivation.specs.declared.Registers.{Registers}
 use Rattle.derivation.specs.{Register.written, Computed.every, Computed.isKnown}
@@ -28,7 +28,6 @@ use Rattle.derivation.proofs.theory.KnownPremises.{first-known, second-known, k
 use Rattle.program.specs.declared.Instruction.{Instruction as InstructionRead}
 use Rattle.program.specs.declared.Test.{Test as TestRead}
 use Rattle.program.specs.declared.Program.{Program as ProgramRead}
-use Rattle.program.specs.Program.{bytesOf, programLength}
 use Rattle.program.specs.Code.{instructionIn, testIn, programIn}
 use Rattle.program.proofs.theory.Value.{Holds, holds-more, holds-all, held-count}
 use Rattle.conditions.specs.Check.{lowest, named, instruction, program, testFor}

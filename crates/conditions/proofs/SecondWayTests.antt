@@ -14,11 +14,10 @@ use Rattle.base.proofs.First.{first-none, first-some, passed-any, passed-not-an
 use Rattle.base.proofs.Order.{lt-or-ge}
 use Rattle.term.specs.Number.{hasOne}
 use Rattle.submission.specs.declared.Claim.{Claim}
-use Rattle.submission.specs.Code.{Limited}
+use Rattle.submission.specs.Code.{Limited, IsClaim}
 use Rattle.submission.specs.{Record.entries, Record.steps, Record.pAt, Record.wayAt, Record.companion, Computed.areInverse}
 use Rattle.submission.specs.declared.Way.the-variants.{AnotherStep, AtStart, InverseKey}
 use Rattle.submission.specs.Way.{wayOf}
-use Rattle.submission.specs.Code.{IsClaim}
 use Rattle.derivation.specs.declared.Step.{Step}
 use Rattle.derivation.specs.declared.Registers.{Registers}
 use Rattle.derivation.specs.{Register.written, Computed.isKnown}

@@ -6,14 +6,16 @@ use Rattle.derivation.specs.{Register.written, Register.lowestAmong, Step.check
 use Rattle.program.specs.Program.{rowOf, Instruction, Program, programLength}
 use Rattle.conditions.specs.Computed.{reachable, hasSecondWay, undone}
 
--- "Order: as numbered, but 6 and 7 are tried together". 8 reachable: "condition 3 broken", place "verifying step"; 9 no second way:
--- "condition 4 broken", place "verifying step"; 10 undone: "condition 5 broken", place "lowest undone step"
+-- 8 reachable: "condition 3 broken", place "verifying step"; 9 no second way: "condition 4 broken", place "verifying step";
+-- 10 undone: "condition 5 broken", place "lowest undone step"
+abbrev pub checks8to10 : List ℕ → Check
+checks8to10 s =
+    andThen (failsIf (reachable s) 8 (verifying s))
+    (andThen (failsIf (not (hasSecondWay s (wayOf (wayAt s)))) 9 (verifying s)) (failsAt 10 (first (undone s) (steps s))))
+
+-- "Order: as numbered, but 6 and 7 are tried together"
 unfoldable pub checks1to10 : List ℕ → Check
-checks1to10 s =
-    andThen (checks1to5 s)
-    (andThen (checkSteps s)
-    (andThen (failsIf (reachable s) 8 (verifying s))
-    (andThen (failsIf (not (hasSecondWay s (wayOf (wayAt s)))) 9 (verifying s)) (failsAt 10 (first (undone s) (steps s))))))
+checks1to10 s = andThen (checks1to5 s) (andThen (checkSteps s) (checks8to10 s))
 
 -- the answer of checking a submission with a page of this length; 11 page: "page under 3N+4 bytes", place "length needed"
 unfoldable pub checkAnswer : List ℕ → ℕ → Answer

@@ -7,20 +7,19 @@ use submission::Way;
 use term::rules;
 ghost use mathlib.Core.Path.{_≡_};
 ghost use mathlib.Core.Bool.{_&&_, not};
-ghost use Rattle.submission.specs.Code.{Limited};
-ghost use Rattle.submission.specs.Record.{steps, pAt, wayAt, verifying};
+ghost use Rattle.submission.specs.Code.{Limited, IsClaim};
+ghost use Rattle.submission.specs.Record.{steps, pAt, wayAt, verifying, secondAt};
 ghost use Rattle.submission.specs.Computed.{areInverse};
 ghost use Rattle.submission.specs.Way.{wayOf};
-ghost use Rattle.base.specs.Answer.{andThen, failsIf, failsAt};
+ghost use Rattle.base.specs.Answer.{failsIf, failsAt};
 ghost use Rattle.base.specs.Code.{checkOf};
-ghost use Rattle.submission.specs.Code.{IsClaim};
 ghost use Rattle.derivation.specs.Register.{written};
 ghost use Rattle.derivation.specs.Computed.{isKnown};
-ghost use Rattle.submission.specs.Record.{secondAt};
 ghost use Rattle.derivation.specs.Code.{Registered};
 ghost use Rattle.conditions.specs.Computed.{reachable, isPremise, samePremises, hasSecondWay, dismantles as dismantlesBy, undoesStep, undone};
 ghost use Rattle.conditions.specs.Code.{Founded, otherWay};
 ghost use Rattle.base.specs.Lists.{first};
+ghost use Rattle.conditions.specs.Check.{checks8to10};
 
 // Condition 3 broken: both premises of the verifying step are deducible from the knowledge, without the guess.
 fn is_reachable(s: &[u8], claim: Claim) -> bool
@@ -210,7 +209,7 @@ pub fn check_conditions(s: &[u8], registers: Registers, claim: Claim) -> Stage
     requires { ⌜ Founded (now s) ⌝ }
     requires { ⌜ Registered (now s) (written (now s) (steps (now s))) registers ⌝ }
     requires { ⌜ IsClaim (now s) claim ⌝ }
-    ensures { λ r. ⌜ checkOf r ≡ andThen (failsIf (reachable (now (s .entry))) 8 (verifying (now (s .entry)))) (andThen (failsIf (not (hasSecondWay (now (s .entry)) (wayOf (wayAt (now (s .entry)))))) 9 (verifying (now (s .entry)))) (failsAt 10 (first (undone (now (s .entry))) (steps (now (s .entry)))))) ⌝ }
+    ensures { λ r. ⌜ checkOf r ≡ checks8to10 (now (s .entry)) ⌝ }
 {
     let reachable = check_reachable(s, claim);
     let Stage::Passed = reachable else {

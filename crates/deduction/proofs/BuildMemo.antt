@@ -10,12 +10,11 @@ use lib.ListN.{length, getD, set, replicate, length-set, length-replicate}
 use lib.Seq.{getD-set-other}
 use borrow.Author.Tests.{eq-eqb, ne-eqb}
 use Rattle.term.specs.Table.{Rec, leaf, branch}
-use Rattle.term.specs.Code.{Below}
+use Rattle.term.specs.Code.{Below, isUnary}
 use Rattle.submission.specs.declared.Term.{Term}
 use Rattle.submission.specs.Code.{IsTerm}
 use Rattle.term.specs.Term.{Shape, atomic, compound, isAtomic}
 use Rattle.term.specs.Number.{shapeOf}
-use Rattle.term.specs.Code.{isUnary}
 use Rattle.submission.specs.Record.{terms, kindAt, xAt, yAt, nameAt, recordOf, recordAt}
 use Rattle.deduction.specs.declared.Parts.{Parts}
 use Rattle.deduction.specs.declared.Parts.the-variants.{Nothing, Both}

@@ -15,13 +15,11 @@ use Rattle.base.proofs.Says.{not-not-false}
 use Rattle.term.specs.Step.{Deducible}
 use Rattle.term.proofs.Reach.{known, reach-iff}
 use Rattle.submission.specs.Record.{terms, recordAt, term}
-use Rattle.deduction.specs.Computed.{built, gives}
-use Rattle.deduction.specs.Computed.{Marked}
+use Rattle.deduction.specs.Computed.{built, gives, Marked}
 use Rattle.deduction.specs.declared.Opening.{Opening}
 use Rattle.deduction.specs.declared.Opening.the-variants.{Freely, With, Shut}
 use Rattle.deduction.specs.declared.Round.{Round}
-use Rattle.deduction.specs.Code.{TableRead, marksOf, code, Memo, Decided, given, OfTerms, OpensAs, Settled}
-use Rattle.deduction.specs.Code.{SoundMarks, Exact, unmarked, withMark, Swept, TakenApart}
+use Rattle.deduction.specs.Code.{TableRead, marksOf, code, Memo, Decided, given, OfTerms, OpensAs, Settled, SoundMarks, Exact, unmarked, withMark, Swept, TakenApart}
 use Rattle.deduction.proofs.theory.Exactness.{gives-reached, deducible-trans, built-is-deducible}
 use Rattle.deduction.proofs.MarkArrays.{facts, set-here, each-set, says-mark}
 use Rattle.deduction.proofs.BuildMemo.{memo-none}

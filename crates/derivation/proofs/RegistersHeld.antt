@@ -16,9 +16,8 @@ use Rattle.base.proofs.BoolLaws.{and-both, and-right}
 use Rattle.base.proofs.FirstGrowing.{first-kept, first-next, first-same}
 use Rattle.base.proofs.Order.{lt-or-ge}
 use Rattle.submission.specs.declared.ClaimBytes.{ClaimBytes}
-use Rattle.submission.specs.Code.{Limited}
+use Rattle.submission.specs.Code.{Limited, IsClaimBytes}
 use Rattle.submission.specs.Record.{entries, steps, entryAt}
-use Rattle.submission.specs.Code.{IsClaimBytes}
 use Rattle.derivation.specs.declared.Step.{Step}
 use Rattle.derivation.specs.declared.Registers.{Registers}
 use Rattle.derivation.specs.Register.{registerTerm, written, holdsTerm, lowestAmong}

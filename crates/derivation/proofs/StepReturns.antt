@@ -10,14 +10,13 @@ use borrow.Author.Tests.{ne-eqb}
 use Rattle.base.proofs.First.{Passed as PassedTo, passed-more, passed-hit, passed-all}
 use Rattle.term.specs.Number.{hasOne}
 use Rattle.base.specs.Answer.{passes, fails, failsIf, andThen}
-use Rattle.submission.specs.Record.{steps}
+use Rattle.submission.specs.Record.{steps, secondAt}
 use Rattle.base.specs.Code.{checkOf}
 use Rattle.base.specs.declared.Stage.{Stage}
 use Rattle.base.specs.declared.Stage.the-variants.{Passed, Refused}
 use Rattle.derivation.specs.declared.Step.{Step}
 use Rattle.derivation.specs.declared.Registers.{Registers}
 use Rattle.derivation.specs.Register.{written}
-use Rattle.submission.specs.Record.{secondAt}
 use Rattle.derivation.specs.{Computed.badStep, Computed.unfounded, Step.checkSteps}
 use Rattle.derivation.specs.Code.{IsStep, Registered, checkStep, StepsChecked}
 use Rattle.derivation.proofs.RegistersHeld.{held-any}

@@ -8,9 +8,8 @@ use borrow.Author.Tests.{lt-ltb, le-ltb, ltb-true}
 use Rattle.base.proofs.Says.{says-eqb, same-test}
 use Rattle.term.specs.Term.{symmetric, asymmetric, left, right, Form, encryption, Head, make, part, decrypt, compound}
 use Rattle.term.specs.{Number.shapeOf, Computed.kindOf}
-use Rattle.term.specs.Code.{builderOf}
+use Rattle.term.specs.Code.{builderOf, ruleOf}
 use Rattle.term.specs.Number.{rules, isRule, headOf}
-use Rattle.term.specs.Code.{ruleOf}
 use Rattle.term.proofs.Kind.{says-builder}
 use Rattle.term.proofs.Rule.{head-rule, rule-head}
 use Rattle.submission.specs.Record.{terms}

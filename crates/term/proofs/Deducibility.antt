@@ -1,9 +1,8 @@
 -- Deducible, exactly: what steps reach is what is built from the terms that taking apart gives.
 use mathlib.Core.Path.{_≡_, sym, subst}
 use mathlib.Core.Logic.{_↔_, _⊎_, inl, inr, ⊎-elim}
-use Rattle.term.specs.Term.{Cipher, Side, Form, pair, encryption, Head, make, part, decrypt, Term, node, Match, Operands, second}
+use Rattle.term.specs.Term.{Cipher, Side, Form, pair, encryption, Head, make, part, decrypt, Term, node, Match, Operands, second, pick}
 use Rattle.term.specs.Code.{builds}
-use Rattle.term.specs.Term.{pick}
 use Rattle.term.specs.Step.{Step}
 use Rattle.term.proofs.Reduce.{picked, Atomic, atom-not-node}
 use Rattle.term.proofs.Reach.{Reach, known, stepped}

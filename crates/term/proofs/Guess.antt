@@ -4,11 +4,9 @@ use mathlib.Core.Logic.{_⊎_, inl, inr, ⊎-elim}
 use mathlib.Core.Bool.{true}
 use native.Mathlib.Omega.{arith}
 use Prim.Native.Nat.{ℕ}
-use Rattle.term.specs.Term.{plain, public, private, Cipher, symmetric, asymmetric, Side, left, right, pair, encryption, Head, make, part, decrypt, Term, atom, node, isKey, inverse, Match, single, Part}
+use Rattle.term.specs.Term.{plain, public, private, Cipher, symmetric, asymmetric, Side, left, right, pair, encryption, Head, make, part, decrypt, Term, atom, node, isKey, inverse, Match, single, Part, pick, Fresh}
 use Rattle.term.specs.Code.{builds, Message}
-use Rattle.term.specs.Term.{pick}
 use Rattle.term.specs.Reduce.{op}
-use Rattle.term.specs.Term.{Fresh}
 use Rattle.term.specs.Step.{Step, Undoes}
 use Rattle.term.proofs.Reduce.{Atomic, atom-not-node, part-self, part-node, match-det, match-sym, Reduces, op-cases, step-op, step-det}
 use Rattle.term.proofs.Reach.{Reach, stepped, reach-message, reach-fresh}

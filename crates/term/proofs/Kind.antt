@@ -10,11 +10,9 @@ use lib.ListN.{length}
 use borrow.Author.Tests.{ne-eqb}
 use Rattle.base.specs.Lists.{grow, listed}
 use Rattle.base.proofs.Says.{Says, says-eqb}
-use Rattle.term.specs.{Term.plain, Term.public, Term.private, Term.symmetric, Term.asymmetric, Term.Form, Term.pair, Term.encryption, Term.Second, Term.absent, Term.anything, Term.keyFor, Term.make, Term.single, Term.takes, Term.Shape, Term.atomic, Term.compound, Computed.shape?, Term.isAtomic, Term.isKeyFor}
-use Rattle.term.specs.{Number.kinds, Number.shapeOf, Computed.kindOf, Computed.inverseKinds}
-use Rattle.term.specs.Code.{isUnary, builderOf, secondOf}
+use Rattle.term.specs.{Term.plain, Term.public, Term.private, Term.symmetric, Term.asymmetric, Term.Form, Term.pair, Term.encryption, Term.Second, Term.absent, Term.anything, Term.keyFor, Term.make, Term.single, Term.takes, Term.Shape, Term.atomic, Term.compound, Computed.shape?, Term.isAtomic, Term.isKeyFor, Number.kinds, Number.shapeOf, Computed.kindOf, Computed.inverseKinds}
+use Rattle.term.specs.Code.{isUnary, builderOf, secondOf, ruleOf}
 use Rattle.term.specs.Number.{rules, headOf, hasOne}
-use Rattle.term.specs.Code.{ruleOf}
 use Rattle.term.proofs.Numbered.{Arms, choice, allBelow, choice-is, entry-past, entry-place}
 use Rattle.term.proofs.Rule.{head-rule, head-past, rule-below}
 

@@ -2,9 +2,8 @@
 use mathlib.Core.Path.{_≡_, refl}
 use mathlib.Core.Logic.{_↔_, _⊎_, inl, inr, ⊎-elim}
 use mathlib.Core.List.{List, [], _∷_}
-use Rattle.term.specs.Term.{Cipher, Side, pair, encryption, Head, make, part, decrypt, Term, node, Match, Part}
+use Rattle.term.specs.Term.{Cipher, Side, pair, encryption, Head, make, part, decrypt, Term, node, Match, Part, pick}
 use Rattle.term.specs.Code.{Message}
-use Rattle.term.specs.Term.{pick}
 use Rattle.term.specs.Step.{Step, Reaches, Deducible}
 use Rattle.term.proofs.Reduce.{Atomic, step-message, step-part}
 

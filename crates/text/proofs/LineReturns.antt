@@ -14,8 +14,7 @@ use Rattle.term.specs.Number.{rules, wordOf, hasOne}
 use Rattle.term.proofs.Numbered.{same-below}
 use Rattle.term.proofs.Rule.{no-word}
 use Rattle.base.specs.Answer.{done}
-use Rattle.program.specs.Program.{relationOf, relationWord, rowOf}
-use Rattle.program.specs.Program.{Instruction, instructionAt, testAt}
+use Rattle.program.specs.Program.{relationOf, relationWord, rowOf, Instruction, instructionAt, testAt}
 use Rattle.term.specs.declared.Relation.{Relation}
 use Rattle.term.specs.Code.{relationIs}
 use Rattle.program.specs.declared.Asked.{Asked}

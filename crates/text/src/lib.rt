@@ -13,8 +13,7 @@ ghost use Prim.Native.Nat.{_+_, _<_};
 ghost use lib.Dec.{eqb};
 ghost use Rattle.term.specs.Number.{wordOf};
 ghost use Rattle.base.specs.Answer.{done};
-ghost use Rattle.program.specs.Program.{relationOf, relationWord};
-ghost use Rattle.program.specs.Program.{instructionAt, testAt};
+ghost use Rattle.program.specs.Program.{relationOf, relationWord, instructionAt, testAt};
 ghost use Rattle.text.specs.Text.{decimal, registerText, secondText, stepLine, stepLines, testLine, answerText, refusedText};
 ghost use Rattle.text.specs.Calls.{Puts};
 

@@ -21,11 +21,9 @@ use Rattle.machine.specs.Calls.{Ran}
 use Rattle.conditions.specs.declared.Verdict.{Verdict}
 use Rattle.conditions.specs.declared.Verdict.the-variants.{Accepted, Refused}
 use Rattle.conditions.specs.Calls.{verdictAnswer, Checked}
-use Rattle.conditions.specs.Check.{checkAnswer}
+use Rattle.conditions.specs.Check.{checkAnswer, program}
 use Rattle.conditions.specs.Condition.{WellFormed, FiveConditions}
-use Rattle.conditions.specs.Check.{program}
-use Rattle.conditions.specs.Demand.{WrongGuess}
-use Rattle.conditions.specs.Demand.{KeptPromise}
+use Rattle.conditions.specs.Demand.{WrongGuess, KeptPromise}
 use Rattle.conditions.proofs.theory.Acceptance.{accepted-iff}
 use Rattle.conditions.proofs.theory.Promise.{demand-3}
 use Rattle.conditions.proofs.theory.Refusal.{check-refusals}

@@ -11,10 +11,9 @@ use native.Mathlib.Decide.{decLt}
 use lib.ListN.{length, take, length-take, List·getD-eq-default}
 use lib.Seq.{getD-take}
 use borrow.Author.Tests.{ne-eqb}
-use Rattle.base.specs.Lists.{any, byte}
+use Rattle.base.specs.Lists.{any, byte, Bytes}
 use Rattle.base.proofs.BoolLaws.{or-right}
 use Rattle.base.specs.Answer.{refused}
-use Rattle.base.specs.Lists.{Bytes}
 use Rattle.submission.specs.Record.{letter, start, badContents}
 use Rattle.submission.specs.Check.{checks1to4, checks1to5}
 use Rattle.text.specs.Text.{answerText, refusedText}

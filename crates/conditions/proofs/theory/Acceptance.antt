@@ -6,7 +6,7 @@ use mathlib.Core.List.{List}
 use Prim.Native.Nat.{ℕ, _<_, _≤_}
 use borrow.Author.Tests.{ltb-false, le-ltb}
 use Rattle.base.proofs.Says.{not-not-false, none-fails}
-use Rattle.base.specs.Answer.{done, passes, andThen, failsIf, failsAt}
+use Rattle.base.specs.Answer.{done, passes, failsIf, failsAt}
 use Rattle.base.specs.Lists.{Bytes, first}
 use Rattle.submission.specs.Record.{steps, wayAt, verifying}
 use Rattle.submission.specs.Way.{wayOf}
@@ -17,7 +17,7 @@ use Rattle.derivation.specs.{Computed.unfounded, Step.checkSteps}
 use Rattle.derivation.proofs.theory.StepMeaning.{fits-iff, steps-pass}
 use Rattle.program.specs.Program.{programLength}
 use Rattle.conditions.specs.Computed.{reachable, hasSecondWay, undone}
-use Rattle.conditions.specs.Check.{checks1to10, checkAnswer}
+use Rattle.conditions.specs.Check.{checks1to10, checkAnswer, checks8to10}
 use Rattle.conditions.specs.Condition.{WellFormed, FiveConditions}
 use Rattle.conditions.specs.Demand.{Demand2}
 use Rattle.conditions.proofs.theory.ConditionsMeant.{founded-terms, reachable-iff, second-way-iff, undone-iff}
@@ -30,7 +30,7 @@ record Clear (s : List ℕ) : Type 0 where
   secondWay : hasSecondWay s (wayOf (wayAt s)) ≡ true
   kept : (i : ℕ) → i < steps s → undone s i ≡ false
 
-pass-8-to-10 : (s : List ℕ) → (andThen (failsIf (reachable s) 8 (verifying s)) (andThen (failsIf (not (hasSecondWay s (wayOf (wayAt s)))) 9 (verifying s)) (failsAt 10 (first (undone s) (steps s)))) ≡ passes) ↔
+pass-8-to-10 : (s : List ℕ) → (checks8to10 s ≡ passes) ↔
     ((reachable s ≡ false) × (hasSecondWay s (wayOf (wayAt s)) ≡ true) × ((i : ℕ) → i < steps s → undone s i ≡ false))
 pass-8-to-10 s =
     let a = if-passes (reachable s) _ _ in

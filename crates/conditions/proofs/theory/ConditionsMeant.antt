@@ -13,12 +13,10 @@ use Rattle.term.specs.Term.{Term}
 use Rattle.term.specs.Number.{headOf}
 use Rattle.term.specs.Step.{Deducible, Undoes}
 use Rattle.term.proofs.Rule.{head-inj, says-takes-apart}
-use Rattle.submission.specs.Record.{terms, steps, ruleAt, pAt, conclusionAt, entryAt, guess, verifying, wayAt, companion, term, InKnowledge}
+use Rattle.submission.specs.Record.{terms, steps, ruleAt, pAt, conclusionAt, entryAt, guess, verifying, wayAt, companion, term, InKnowledge, secondAt}
 use Rattle.submission.specs.Way.{Way, another-step, at-start, inverse-key, wayOf, row}
 use Rattle.submission.proofs.theory.ListedTerms.{Claimed, InRange}
-use Rattle.derivation.specs.Computed.{isKnown}
-use Rattle.submission.specs.Record.{secondAt}
-use Rattle.derivation.specs.Computed.{unfounded}
+use Rattle.derivation.specs.Computed.{isKnown, unfounded}
 use Rattle.derivation.proofs.theory.RegisterTerms.{KnownNumber, says-known}
 use Rattle.derivation.proofs.theory.StepMeaning.{second-listed, founded-iff}
 use Rattle.deduction.specs.Computed.{entryMarks, isDeducible}

@@ -10,9 +10,8 @@ use Rattle.base.specs.Lists.{Bytes}
 use Rattle.submission.specs.Record.{steps, guess, nameAt}
 use Rattle.program.specs.Program.{bytesOf, programLength}
 use Rattle.machine.specs.Run.{signal, runAnswer}
-use Rattle.conditions.specs.Check.{checkAnswer}
+use Rattle.conditions.specs.Check.{checkAnswer, program}
 use Rattle.conditions.specs.Condition.{WellFormed, FiveConditions}
-use Rattle.conditions.specs.Check.{program}
 use Rattle.conditions.specs.Demand.{Demand3, EveryGoodAccepted}
 use Rattle.conditions.proofs.theory.Acceptance.{accepted-iff}
 use Rattle.conditions.proofs.theory.ProgramRun.{program-bytes}

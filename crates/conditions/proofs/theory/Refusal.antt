@@ -10,9 +10,8 @@ use lib.Dec.{ltb}
 use lib.ListN.{length}
 use Rattle.base.specs.Lists.{first}
 use Rattle.base.specs.Answer.{refused, andThen, pageAfter, failsIf, failsAt}
-use Rattle.submission.specs.Record.{terms, entries, steps, verifying, wayAt}
+use Rattle.submission.specs.Record.{terms, entries, steps, verifying, wayAt, badContents, badCount}
 use Rattle.submission.specs.Way.{wayOf}
-use Rattle.submission.specs.Record.{badContents, badCount}
 use Rattle.submission.specs.Check.{badTerm, badKnowledge, goodClaim, checks1to4, checks1to5}
 use Rattle.base.proofs.AnswerLaws.{FailsWith, passes-with, fails-with, if-with, at-with, then-with, refused-with}
 use Rattle.derivation.specs.{Computed.badStep, Computed.unfounded, Step.stepFault, Step.checkSteps}
@@ -20,8 +19,7 @@ use Rattle.deduction.specs.Deduce.{deducibleAnswer}
 use Rattle.program.specs.Program.{bytesOf, programLength, badProgram}
 use Rattle.machine.specs.Run.{signal, runAnswer}
 use Rattle.conditions.specs.Computed.{reachable, hasSecondWay, undone}
-use Rattle.conditions.specs.Check.{checks1to10, checkAnswer}
-use Rattle.conditions.specs.Check.{program}
+use Rattle.conditions.specs.Check.{checks1to10, checkAnswer, program}
 
 -- ---- the checks' numbers, for whatever holds of 1 to n
 abbrev UpTo : (ℕ → Type 0) → ℕ → Type 0

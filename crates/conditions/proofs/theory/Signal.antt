@@ -9,7 +9,7 @@ use native.Mathlib.Omega.{arith}
 use lib.Dec.{eqb, ltb}
 use lib.ListN.{length}
 use borrow.Author.Tests.{lt-ltb}
-use Rattle.base.specs.Lists.{listed}
+use Rattle.base.specs.Lists.{listed, Bytes}
 use Rattle.base.proofs.Grow.{length-listed, listed-at}
 use Rattle.base.proofs.Order.{lt-or-ge}
 use Rattle.base.proofs.Says.{says-and, says-true, denies}
@@ -20,7 +20,6 @@ use Rattle.term.specs.Step.{Undoes}
 use Rattle.term.proofs.Reduce.{step-op}
 use Rattle.term.proofs.Reach.{Reach, known, reach-iff}
 use Rattle.term.proofs.Guess.{UndoesSome, OutOfReach, FreshGuess, MayHold, clean, tried, Executed, op-may-hold, another-step-differs, at-start-differs, verified-no-key}
-use Rattle.base.specs.Lists.{Bytes}
 use Rattle.submission.specs.{Record.entries, Record.steps, Record.entryAt, Record.ruleAt, Record.pAt, Record.qAt, Record.conclusionAt, Record.guess, Record.verifying, Record.wayAt, Record.companion, Record.nameAt, Record.term, Computed.areInverse, Record.InKnowledge}
 use Rattle.submission.specs.Way.{Way, another-step, at-start, inverse-key, wayOf}
 use Rattle.submission.proofs.theory.ListedTerms.{Claimed, claimed}
@@ -28,8 +27,7 @@ use Rattle.derivation.specs.{Register.written, Computed.isKnown}
 use Rattle.submission.specs.Record.{secondAt}
 use Rattle.derivation.proofs.theory.RegisterTerms.{says-known, result-register}
 use Rattle.derivation.proofs.theory.StepMeaning.{founded-iff}
-use Rattle.program.specs.Program.{relationOf}
-use Rattle.program.specs.Program.{bytesOf, badInstruction, badTest, badProgram}
+use Rattle.program.specs.Program.{relationOf, bytesOf, badInstruction, badTest, badProgram}
 use Rattle.machine.specs.Run.{atomKind, guessed, holds as relates, signals, signal}
 use Rattle.program.proofs.theory.Bytes.{byte-count, test-back, program-passes}
 use Rattle.machine.proofs.theory.RunRegisters.{register-entry, register-guess, says-equal, says-inverse}

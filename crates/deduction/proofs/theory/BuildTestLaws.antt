@@ -8,15 +8,13 @@ use native.Mathlib.Omega.{arith}
 use Rattle.base.proofs.BoolLaws.{or-left, or-right, and-both}
 use Rattle.base.proofs.Says.{Says, says-and, says-or, says-true}
 use Rattle.term.specs.Term.{make, Term}
-use Rattle.term.specs.Code.{Message}
+use Rattle.term.specs.Code.{Message, Below}
 use Rattle.term.specs.Table.{Rec, leaf, branch}
-use Rattle.term.specs.Code.{Below}
 use Rattle.term.proofs.Deducibility.{Built, given, made, built-node}
 use Rattle.term.proofs.Table.{branch-of, node-of, part-below}
 use Rattle.submission.specs.Record.{terms, recordAt, term}
 use Rattle.submission.proofs.theory.ListedTerms.{Listed}
-use Rattle.deduction.specs.Computed.{at, partsBuilt, builtWithin, built}
-use Rattle.deduction.specs.Computed.{Marked}
+use Rattle.deduction.specs.Computed.{at, partsBuilt, builtWithin, built, Marked}
 use Rattle.deduction.specs.Code.{SameMarks}
 
 -- ---- parts are earlier, so more levels change nothing

@@ -8,8 +8,7 @@ use Prim.Native.Nat.{ℕ, zero, suc, _<_}
 use lib.Dec.{eqb}
 use lib.ListN.{length}
 use borrow.Author.Tests.{eq-eqb}
-use Rattle.base.specs.Lists.{any}
-use Rattle.base.specs.Lists.{listed}
+use Rattle.base.specs.Lists.{any, listed}
 use Rattle.base.proofs.Says.{Says, says-eqb, says-and, says-or, says-any, says-true, same-test}
 use Rattle.base.proofs.BoolLaws.{or-left, or-right, and-both}
 use Rattle.base.proofs.Grow.{length-listed, listed-at}
@@ -23,8 +22,7 @@ use Rattle.term.proofs.Table.{branch-of, node-of, part-below}
 use Rattle.term.proofs.Marks.{rounds-keep, rounds-sound, rounds-closed}
 use Rattle.submission.specs.{Record.terms, Record.entries, Record.entryAt, Record.recordAt, Computed.areInverse, Record.term, Record.InKnowledge}
 use Rattle.submission.proofs.theory.ListedTerms.{Listed}
-use Rattle.deduction.specs.Computed.{at, built, opens, gives, taken, round, isEntry, entryMarks, rounds, isDeducible}
-use Rattle.deduction.specs.Computed.{Marked}
+use Rattle.deduction.specs.Computed.{at, built, opens, gives, taken, round, isEntry, entryMarks, rounds, isDeducible, Marked}
 use Rattle.deduction.specs.Code.{SameMarks}
 use Rattle.deduction.proofs.theory.BuildTestLaws.{same-built, says-built}
 

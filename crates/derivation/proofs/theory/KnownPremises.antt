@@ -10,10 +10,9 @@ use borrow.Author.Tests.{not-false}
 use Rattle.base.proofs.Says.{says-and, says-true}
 use Rattle.base.proofs.First.{first-some}
 use Rattle.base.proofs.FirstGrowing.{first-kept, any-first, any-more}
-use Rattle.submission.specs.Record.{steps, pAt}
+use Rattle.submission.specs.Record.{steps, pAt, secondAt}
 use Rattle.derivation.specs.declared.Registers.{Registers}
 use Rattle.derivation.specs.{Register.written, Register.lowestAmong, Computed.knownAmong, Computed.isKnown}
-use Rattle.submission.specs.Record.{secondAt}
 use Rattle.derivation.specs.Computed.{unfounded}
 use Rattle.derivation.specs.Code.{RegisteredAmong}
 use Rattle.derivation.proofs.RegistersHeld.{held-lowest}

@@ -13,10 +13,9 @@ use Rattle.term.specs.Computed.{kindOf}
 use Rattle.term.specs.Step.{Step}
 use Rattle.term.specs.Number.{rules, headOf, hasOne}
 use Rattle.base.specs.Answer.{passes}
-use Rattle.submission.specs.Record.{terms, steps, kindAt, xAt, yAt, ruleAt, pAt, qAt, conclusionAt, term}
+use Rattle.submission.specs.Record.{terms, steps, kindAt, xAt, yAt, ruleAt, pAt, qAt, conclusionAt, term, secondAt}
 use Rattle.base.proofs.AnswerLaws.{fails-not-passes}
 use Rattle.submission.proofs.theory.{GoodRecord.HasSecond, ListedTerms.Listed, ListedTerms.compound-term, ListedTerms.form-of}
-use Rattle.submission.specs.Record.{secondAt}
 use Rattle.derivation.specs.{Computed.isRecord, Computed.partAt, Computed.opensWith, Computed.follows, Computed.badStep, Computed.unfounded, Step.stepFault, Step.checkSteps}
 use Rattle.derivation.proofs.theory.RegisterTerms.{KnownNumber, says-known}
 use Rattle.derivation.specs.Step.{StepFits}

@@ -8,7 +8,7 @@ use native.Mathlib.Numerals.{add-one}
 use native.Mathlib.Omega.{arith}
 use lib.Dec.{eqb}
 use lib.ListN.{getD}
-use Rattle.base.specs.Lists.{grow}
+use Rattle.base.specs.Lists.{grow, Bytes, byte}
 use Rattle.base.specs.declared.Stage.{Stage}
 use Rattle.submission.specs.declared.Claim.{Claim}
 use Rattle.submission.specs.declared.Reading.{Reading}
@@ -16,7 +16,6 @@ use Rattle.submission.specs.declared.Reading.the-variants.{Refused}
 use Rattle.submission.specs.declared.Reading.the-variants as reading
 use Rattle.submission.specs.Code.{readingCheck, ReadingIs}
 use Rattle.base.specs.Answer.{done, refused, passes, answered}
-use Rattle.base.specs.Lists.{Bytes, byte}
 use Rattle.submission.specs.Check.{checks1to5}
 use Rattle.base.specs.Code.{checkOf}
 use Rattle.base.specs.Calls.{answerOf}
@@ -29,8 +28,7 @@ use Rattle.term.specs.declared.Relation.{Relation as RelationGiven}
 use Rattle.term.specs.declared.Relation.the-variants.{Equal, Inverse}
 use Rattle.term.specs.Code.{relationIs}
 use Rattle.term.specs.Term.{Relation, equal, inverses}
-use Rattle.program.specs.Program.{relationOf}
-use Rattle.program.specs.Program.{Instruction, instructionAt, testAt, badProgram}
+use Rattle.program.specs.Program.{relationOf, Instruction, instructionAt, testAt, badProgram}
 use Rattle.program.specs.Code.{relationIn, asked}
 use Rattle.program.proofs.theory.Check13.{good, good-instruction, good-test, program-good, program-bad}
 use Rattle.machine.specs.Run.{executed, registers, holds, signals, signal, runAnswer}

@@ -7,9 +7,8 @@ use native.Mathlib.Omega.{arith}
 use lib.ListN.{length, getD, length-append, List·getD-append}
 use lib.Seq.{getD-append-seam}
 use borrow.Author.Tests.{eq-eqb, ne-eqb, le-ltb}
-use Rattle.base.specs.Lists.{any}
+use Rattle.base.specs.Lists.{any, byte}
 use Rattle.base.proofs.First.{passed-not-any}
-use Rattle.base.specs.Lists.{byte}
 use Rattle.submission.specs.Record.{entries}
 use Rattle.program.specs.Program.{Instruction, Program, instructionBytes, bytesOf, programLength, instructionAt, testAt, badInstruction, badTest, badProgram}
 

@@ -8,12 +8,11 @@ use lib.Dec.{eqb, ltb}
 use lib.ListN.{length}
 use native.Mathlib.Omega.{arith}
 use borrow.Author.Tests.{eq-eqb, ne-eqb, lt-ltb, le-ltb, eqb-true, ltb-true, ltb-false}
-use Rattle.base.specs.Lists.{any}
+use Rattle.base.specs.Lists.{any, byte}
 use Rattle.base.proofs.First.{Passed}
 use Rattle.base.proofs.Scan.{true-any, false-any}
 use Rattle.base.proofs.Says.{says-true, says-ltb, says-and, says-any, denies, not-not-false, or-false}
 use Rattle.term.specs.Number.{rules, isRule, hasOne}
-use Rattle.base.specs.Lists.{byte}
 use Rattle.submission.specs.Record.{entries}
 use Rattle.term.specs.Term.{Relation}
 use Rattle.term.specs.Code.{relationIs}
@@ -21,8 +20,7 @@ use Rattle.term.specs.declared.Relation.{Relation as RelationGiven}
 use Rattle.program.specs.declared.Asked.{Asked}
 use Rattle.program.specs.declared.Asked.the-variants.{Asks, Nothing}
 use Rattle.program.specs.Code.{relationIn, asked}
-use Rattle.program.specs.Program.{rowOf, relationOf}
-use Rattle.program.specs.Program.{Instruction, programLength, instructionAt, testAt, operand, goodRegisters, badInstruction, badTest, badProgram}
+use Rattle.program.specs.Program.{rowOf, relationOf, Instruction, programLength, instructionAt, testAt, operand, goodRegisters, badInstruction, badTest, badProgram}
 
 -- ---- registers, where n are written
 module _ {n x a : ℕ} (b : ℕ) (one : Bool) (e : x ≡ a) where

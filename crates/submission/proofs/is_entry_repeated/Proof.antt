@@ -1,8 +1,7 @@
 -- `is_entry_repeated` meets its contract: the entries before k differ from entry i.
-use Rattle.base.proofs.First.{passed-more}
+use Rattle.base.proofs.First.{passed-more, Passed}
 use Prim.Native.Nat.{_-_}
 use Rattle.base.proofs.Scan.{scan}
-use Rattle.base.proofs.First.{Passed}
 use Rattle.base.proofs.TestChains.{same-eqb, apart-eqb}
 use lib.Dec.{eqb}
 use Rattle.submission.specs.Record.{entryAt}

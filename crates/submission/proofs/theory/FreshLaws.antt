@@ -4,8 +4,7 @@ use mathlib.Core.Logic.{Iff·trans}
 use mathlib.Core.List.{List}
 use Prim.Native.Nat.{ℕ}
 use Rattle.base.proofs.Says.{Says, says-and, says-not, says-any}
-use Rattle.term.specs.Term.{Term, inverse, Part}
-use Rattle.term.specs.Term.{Fresh}
+use Rattle.term.specs.Term.{Term, inverse, Part, Fresh}
 use Rattle.term.specs.Computed.{isPart}
 use Rattle.term.proofs.FreshLaws.{says-part}
 use Rattle.submission.specs.Record.{entries, entryAt, term, InKnowledge}

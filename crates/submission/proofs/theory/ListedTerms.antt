@@ -12,11 +12,10 @@ use borrow.Author.Tests.{ltb-false}
 use Rattle.base.proofs.Order.{lt-or-ge}
 use Rattle.base.proofs.Says.{Says, says-true, says-eqb, says-ltb, says-and, says-or, not-not-false, or-false, none-fails}
 use Rattle.term.specs.Term.{Kind, plain, public, private, otherKind, asymmetric, Form, Second, absent, anything, keyFor, second, unary, make, Term, atom, node, isKey, inverse, Match, Shape, atomic, compound, shape, isAtomic, isKeyFor, Operands}
-use Rattle.term.specs.Code.{Message}
+use Rattle.term.specs.Code.{Message, Below, Table}
 use Rattle.term.specs.{Number.shapeOf, Computed.kindOf, Computed.inverseKinds}
 use Rattle.term.proofs.Kind.{kind-shape, shape-kind}
 use Rattle.term.specs.Table.{branch, message}
-use Rattle.term.specs.Code.{Below, Table}
 use Rattle.term.proofs.Table.{decode-inj, decoded-reads}
 use Rattle.base.specs.Answer.{passes, failsIf, failsAt}
 use Rattle.base.specs.Lists.{Bytes, first}

@@ -14,8 +14,7 @@ use Rattle.term.proofs.Rule.{word-length}
 use Rattle.base.specs.Answer.{done}
 use Rattle.base.specs.Lists.{byte, Bytes}
 use Rattle.term.specs.Term.{Relation, equal, inverses}
-use Rattle.program.specs.Program.{relationOf, relationWord}
-use Rattle.program.specs.Program.{Instruction, instructionAt, testAt}
+use Rattle.program.specs.Program.{relationOf, relationWord, Instruction, instructionAt, testAt}
 use Rattle.text.specs.Text.{digits, registerText, secondText, stepLine, stepLines, testLine, refusedText, answerText}
 use Rattle.text.specs.Calls.{Puts}
 use Rattle.text.proofs.theory.PutLaws.{puts-whole}

@@ -2,8 +2,6 @@
 use Rattle.conditions.proofs.PassedFacts.{founded}
 use Rattle.base.proofs.StageLaws.{stopped, went-on}
 -- `check_conditions` meets its contract: checks 8 to 10, in this order.
-use Rattle.conditions.proofs.PassedFacts.{founded}
-use Rattle.base.proofs.StageLaws.{stopped, went-on}
 use borrow.Author.Needs.{needs}
 use Rattle.conditions.proofs.conditions.check_conditions.Statement.{statement}
 use Rattle.conditions.proofs.conditions.check_conditions.Tie as tie

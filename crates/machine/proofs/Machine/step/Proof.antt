@@ -2,8 +2,7 @@
 use mathlib.Core.Logic.{⊎-elim}
 use Rattle.term.specs.Term.{left, right}
 use Rattle.machine.specs.declared.Cipher.the-variants.{Symmetric, Asymmetric}
-use Rattle.machine.proofs.theory.InstructionResult.{left-in, right-in, key-in, left-behind, left-fits}
-use Rattle.machine.proofs.theory.InstructionResult.{operands-read, step-pair, step-part, step-encrypt, step-decrypt, step-form}
+use Rattle.machine.proofs.theory.InstructionResult.{left-in, right-in, key-in, left-behind, left-fits, operands-read, step-pair, step-part, step-encrypt, step-decrypt, step-form}
 use borrow.Author.Needs.{needs}
 use Rattle.machine.proofs.Machine.step.Statement.{statement}
 use Rattle.machine.proofs.Machine.step.Tie as tie
