@@ -34,7 +34,7 @@ const PUBLIC: u8 = ATOM + kinds::PUBLIC;
 
 const PRIVATE: u8 = ATOM + kinds::PRIVATE;
 
-// A term as a node. A head below ATOM is a rule's number, and the node is that rule's word over two nodes; fst and snd have their node twice.
+// A term as a node. A head below ATOM is a rule's number, and the node is that rule's word over two nodes; a rule with one operand has its node twice.
 // An atom has its name on the left.
 pub struct Node {
     pub head: u8,

@@ -2,7 +2,7 @@
 use Rattle.base.specs.Words.{_≡_, _⊎_, List, [], _∷_, Option, none, some}
 use Rattle.term.specs.Term.{pair, encryption, Head, make, part, decrypt, Term, node, second, Operands, Match, pick}
 
--- The table's rows: the rule h concludes t from the premises p and q. The one premise of fst and snd counts as both.
+-- The table's rows: the rule h concludes t from the premises p and q. One premise alone counts as both.
 abbrev pub Step : Head → Term → Term → Term → Type 0
 Step (make f) p q t = Operands (second f) p q × (t ≡ node (make f) p q)
 Step (part s) p q t = ((x y : Term) × (p ≡ node (make pair) x y) × (t ≡ pick s x y)) × (q ≡ p)

@@ -60,7 +60,7 @@ module _ {a : List ℕ} {i : ℕ} (letter : ℕ) {r : Asked} (e : relationIn r �
   pub relation-put : {x y : Relation} {b : List ℕ} {j : ℕ} → r ≡ Asks x → x ≡ y → Puts a i (rowOf (relationIs y) .word) b j → Puts a i (relationWord (relationOf letter)) b j
   relation-put k h p = rw (← e, k, h) p
 
--- the second register: none under fst and snd
+-- the second register: none under a rule with one operand
 module _ {a : List ℕ} {i : ℕ} (rule second : ℕ) where
   pub one-put : {b : Bool} → b ≡ hasOne rule → b ≡ true → Puts a i (secondText rule second) a i
   one-put e t = rw (← e, t) puts-none

@@ -76,7 +76,7 @@ module _ (s : List ℕ) where
         ∙ ap (executed (registers s name (bytesOf (program s)) i)) (instruction-read i (omega arith))
         ∙ ap (λ z. op (headOf (ruleAt s i)) (value i (lowest s (pAt s i))) (value i z)) (operand-of i)
 
-    -- fst and snd read one register twice
+    -- a rule with one operand reads one register twice
     pub same-operand : (i : ℕ) → single (headOf (ruleAt s i)) ≡ true → value i (lowest s (pAt s i)) ≡ value i (lowest s (secondAt s i))
     unfolding secondAt hasOne
     same-operand i e = rw e

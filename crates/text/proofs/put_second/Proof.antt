@@ -1,4 +1,4 @@
--- Nothing under fst and snd, else a space and the register.
+-- Nothing under a rule with one operand, else a space and the register.
 use Rattle.text.proofs.LineReturns.{one-put, two-put}
 use borrow.Author.Needs.{needs}
 use Rattle.text.proofs.put_second.Statement.{statement}
