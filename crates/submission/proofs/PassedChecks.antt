@@ -11,7 +11,6 @@ use Rattle.base.specs.Answer.{passes, failsIf, failsAt}
 use Rattle.submission.specs.Record.{count, least, most, badCount, badContents}
 use Rattle.submission.specs.Code.{Limited}
 use Rattle.submission.specs.Check.{checks1to4, checks1to5, goodClaim}
-use Rattle.base.proofs.StageLaws.{bytes, stage-passes}
 use Rattle.base.proofs.AnswerLaws.{at-passes, then-passes}
 use Rattle.base.specs.Lists.{first}
 
@@ -33,5 +32,3 @@ limited s e =
       entries = limit s 1 (good 1 (omega arith));
       steps = limit s 2 (good 2 (omega arith));
     }
-
-pub ruleset passing = (bytes, stage-passes, body-passes, limited)

@@ -25,10 +25,6 @@ abbrev pub Apart : ℕ → ℕ → Type 0
 Apart n zero = Unit {0}
 Apart n (suc k) = Apart n k × (n ≡ k → ⊥)
 
-pub apart-past : (N n : ℕ) → Apart n N → N ≤ n
-apart-past zero n a = omega arith
-apart-past (suc k) n a = let l = apart-past k n (a .0) in ⊎-elim (λ m. absurd (a .1 (omega arith))) (λ m. m) (lt-or-ge n (suc k))
-
 pub entry-past : {A : Type 0} (l : List A) (n : ℕ) → length l ≤ n → getElem? l n ≡ none
 entry-past [] n b = refl
 entry-past (a ∷ l) zero b = absurd (omega arith)
