@@ -30,7 +30,8 @@ record Clear (s : List ℕ) : Type 0 where
   secondWay : hasSecondWay s (wayOf (wayAt s)) ≡ true
   kept : (i : ℕ) → i < steps s → undone s i ≡ false
 
-pass-8-to-10 : (s : List ℕ) → (checks8to10 s ≡ passes) ↔
+-- checks 8 to 10 pass
+pub pass-8-to-10 : (s : List ℕ) → (checks8to10 s ≡ passes) ↔
     ((reachable s ≡ false) × (hasSecondWay s (wayOf (wayAt s)) ≡ true) × ((i : ℕ) → i < steps s → undone s i ≡ false))
 pass-8-to-10 s =
     let a = if-passes (reachable s) _ _ in
