@@ -1,4 +1,4 @@
--- Tests of term numbers; the laws `says-inverse` and `says-fresh` say what they tell of terms.
+-- Tests of term numbers; the laws `inverse-iff` and `says-fresh` say what they tell of terms.
 use Rattle.base.specs.{Words.Bool, Words._&&_, Words.not, Words.List, Words.ℕ, Words.eqb, Lists.any}
 use Rattle.term.specs.{Term.Term, Term.inverse, Computed.inverseKinds, Computed.isPart}
 use Rattle.submission.specs.Record.{kindAt, xAt, yAt, entries, entryAt, term}

@@ -1,4 +1,4 @@
--- Decisions and tests of what the other files define; their types, or the laws `says-part`, `says-takes-apart` and `inverse-kinds-are`, say what
+-- Decisions and tests of what the other files define; their types, or the laws `says-part`, `says-takes-apart` and `says-kinds`, say what
 -- they decide.
 use Rattle.base.specs.Words.{Dec·and, Bool, false, _||_, _&&_, cond, Option, none, some, List, [], _∷_, ℕ, suc, eqb, ite}
 use native.Mathlib.Decide.{ℕ-discrete}
