@@ -6,13 +6,13 @@ use Prim.Native.Nat.{ℕ, _≤_}
 use native.Mathlib.Omega.{arith}
 use lib.Dec.{ltb}
 use borrow.Author.Tests.{ltb-false}
-use Rattle.base.proofs.Says.{or-false, none-fails}
-use Rattle.base.specs.Answer.{passes, failsIf, failsAt}
-use Rattle.submission.specs.Record.{count, least, most, badCount, badContents}
+use Rattle.base.proofs.Says.{or-false}
+use Rattle.base.specs.Answer.{passes, failsIf}
+use Rattle.submission.specs.Record.{count, least, most, badCount}
 use Rattle.submission.specs.Code.{Limited}
 use Rattle.submission.specs.Check.{checks1to4, checks1to5, goodClaim}
-use Rattle.base.proofs.AnswerLaws.{at-passes, then-passes}
-use Rattle.base.specs.Lists.{first}
+use Rattle.base.proofs.AnswerLaws.{then-passes}
+use Rattle.submission.proofs.theory.ListedTerms.{pass-2-to-4}
 
 pub body-passes : (s : List ℕ) → checks1to5 s ≡ passes → checks1to4 s ≡ passes
 unfolding checks1to5
@@ -22,11 +22,8 @@ limit : (s : List ℕ) (i : ℕ) → badCount s i ≡ false → count s i ≤ mo
 limit s i e = ltb-false (most i) (count s i) (or-false (ltb (count s i) (least i)) (ltb (most i) (count s i)) .0 e .1)
 
 pub limited : (s : List ℕ) → checks1to4 s ≡ passes → Limited s
-unfolding checks1to4
 limited s e =
-    let (e1, r) = then-passes (failsIf (badContents s) 1 0) _ .0 e in
-    let (e2, r) = then-passes (failsAt 2 (first (badCount s) 4)) _ .0 r in
-    let good = none-fails (badCount s) 4 .0 (at-passes 2 _ .0 e2) in
+    let good = pass-2-to-4 s e .0 in
     record {
       terms = limit s 0 (good 0 (omega arith));
       entries = limit s 1 (good 1 (omega arith));

@@ -167,15 +167,21 @@ pub record Listed (s : List ℕ) : Type 0 where
 within : (a b c : ℕ) → ltb b a || ltb c b ≡ false → (a ≤ b) × (b ≤ c)
 within a b c e = let u = or-false _ _ .0 e in (ltb-false b a (u .0), ltb-false c b (u .1))
 
-pub listed : (s : List ℕ) → Bytes s → checks1to4 s ≡ passes → Listed s
-unfolding checks1to4 badKnowledge
-listed s b e =
+-- what checks 2 to 4 say of every entry, record and term number, where they pass
+pub pass-2-to-4 : (s : List ℕ) → checks1to4 s ≡ passes →
+    ((i : ℕ) → i < 4 → badCount s i ≡ false) × ((i : ℕ) → i < terms s → badTerm s i ≡ false) × ((i : ℕ) → i < entries s → badKnowledge s i ≡ false)
+unfolding checks1to4
+pass-2-to-4 s e =
     let (e1, r) = then-passes (failsIf (badContents s) 1 0) _ .0 e in
     let (e2, r) = then-passes (failsAt 2 (first (badCount s) 4)) _ .0 r in
     let (e3, e4) = then-passes (failsAt 3 (first (badTerm s) (terms s))) (failsAt 4 (first (badKnowledge s) (entries s))) .0 r in
-    let counts = none-fails (badCount s) 4 .0 (at-passes 2 _ .0 e2) in
-    let bad-entry = none-fails (badKnowledge s) (entries s) .0 (at-passes 4 _ .0 e4) in
-    let all : (i : ℕ) → i < terms s → Good s i = λ i l. good s i (none-fails (badTerm s) (terms s) .0 (at-passes 3 _ .0 e3) i l) in
+    (none-fails _ _ .0 (at-passes 2 _ .0 e2), none-fails _ _ .0 (at-passes 3 _ .0 e3), none-fails _ _ .0 (at-passes 4 _ .0 e4))
+
+pub listed : (s : List ℕ) → Bytes s → checks1to4 s ≡ passes → Listed s
+unfolding badKnowledge
+listed s b e =
+    let (counts, records, bad-entry) = pass-2-to-4 s e in
+    let all : (i : ℕ) → i < terms s → Good s i = λ i l. good s i (records i l) in
     let t = table-at s b all in
     record {
       bytes = b;
