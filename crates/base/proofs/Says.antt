@@ -3,11 +3,11 @@ use mathlib.Core.Path.{_≡_, refl, sym, _∙_}
 use mathlib.Core.Logic.{_↔_, _⊎_, inl, inr, ⊎-elim}
 use mathlib.Core.Bool.{Bool, true, false, _||_, _&&_, not, true≢false, false≢true}
 use mathlib.Core.Option.{Option, none, some}
-use Prim.Native.Nat.{ℕ, _<_}
+use Prim.Native.Nat.{ℕ, _<_, _≤_}
 use lib.Dec.{eqb, ltb}
 use native.Mathlib.Omega.{arith}
-use borrow.Author.Tests.{ltb-true, eqb-true, lt-ltb, eq-eqb}
-use Rattle.base.specs.{Lists.first, Lists.any, Code.isSome}
+use borrow.Author.Tests.{ltb-true, ltb-false, eqb-true, lt-ltb, le-ltb, eq-eqb}
+use Rattle.base.specs.{Lists.first, Computed.any, Code.isSome}
 use Rattle.base.proofs.First.{first-none, first-some, passed-all}
 
 abbrev pub Says : Bool → Type 0 → Type 0
@@ -20,11 +20,18 @@ true-or-false false = inr refl
 pub says-true : (b : Bool) → Says b (b ≡ true)
 says-true b = (λ e. e, λ e. e)
 
+not-is-true : (a : Bool) → (not a ≡ true) ↔ (a ≡ false)
+not-is-true true = (λ e. absurd (false≢true e), λ e. absurd (true≢false e))
+not-is-true false = (λ e. refl, λ e. refl)
+
 pub says-eqb : (m n : ℕ) → Says (eqb m n) (m ≡ n)
 says-eqb m n = (eqb-true m n, eq-eqb m n)
 
 pub says-ltb : (m n : ℕ) → Says (ltb m n) (m < n)
 says-ltb m n = (ltb-true m n, lt-ltb m n)
+
+pub says-not-ltb : (m n : ℕ) → Says (not (ltb m n)) (n ≤ m)
+says-not-ltb m n = (λ e. ltb-false m n (not-is-true _ .0 e), λ l. not-is-true _ .1 (le-ltb m n l))
 
 pub says-and : {P Q : Type 0} (a b : Bool) → Says a P → Says b Q → Says (a && b) (P × Q)
 says-and true b p q = (λ e. (p .0 refl, q .0 e), λ u. q .1 (u .1))
@@ -38,6 +45,13 @@ pub says-not : {P : Type 0} (a : Bool) → Says a P → Says (not a) (P → ⊥)
 says-not true p = (λ e. absurd (false≢true e), λ f. absurd (f (p .0 refl)))
 says-not false p = (λ e x. false≢true (p .1 x), λ f. refl)
 
+-- not both
+pub says-not-both : {P Q : Type 0} (a b : Bool) → Says a P → Says b Q → Says (not (a && b)) ((P → ⊥) ⊎ (Q → ⊥))
+says-not-both true b p q =
+    let w = says-not b q in
+    (λ e. inr (w .0 e), ⊎-elim (λ f. absurd (f (p .0 refl))) (w .1))
+says-not-both false b p q = (λ e. inl (λ x. false≢true (p .1 x)), λ u. refl)
+
 -- two tests that say the same are equal
 pub same-test : {P : Type 0} (a b : Bool) → Says a P → Says b P → a ≡ b
 same-test true b p q = sym (q .1 (p .0 refl))
@@ -49,6 +63,11 @@ pub denies : {P : Type 0} (a : Bool) → Says a P → (a ≡ false) ↔ (P → �
 denies true p = (λ e. absurd (true≢false e), λ f. absurd (f (p .0 refl)))
 denies false p = (λ e x. false≢true (p .1 x), λ f. refl)
 
+-- and a test that comes out false exactly when something holds
+pub refutes : {P : Type 0} (a : Bool) → (a ≡ false) ↔ P → Says a (P → ⊥)
+refutes true p = (λ e x. true≢false (p .1 x), λ f. refl)
+refutes false p = (λ e. absurd (false≢true e), λ f. absurd (f (p .0 refl)))
+
 pub not-not-false : (a : Bool) → (not a ≡ false) ↔ (a ≡ true)
 not-not-false true = (λ e. refl, λ e. refl)
 not-not-false false = (λ e. absurd (true≢false e), λ e. absurd (false≢true e))
@@ -56,6 +75,10 @@ not-not-false false = (λ e. absurd (true≢false e), λ e. absurd (false≢true
 pub or-false : (a b : Bool) → (a || b ≡ false) ↔ ((a ≡ false) × (b ≡ false))
 or-false true b = (λ e. absurd (true≢false e), λ u. u .0)
 or-false false b = (λ e. (refl, e), λ u. u .1)
+
+pub or-other : (a b : Bool) → (a || b) ≡ true → a ≡ false → b ≡ true
+or-other true b e f = absurd (true≢false f)
+or-other false b e f = e
 
 pub and-false : (a b : Bool) → (a && b ≡ false) ↔ ((a ≡ false) ⊎ (b ≡ false))
 and-false true b = (λ e. inr e, ⊎-elim (λ e. absurd (true≢false e)) (λ e. e))

@@ -4,7 +4,7 @@ use mathlib.Core.Bool.{Bool, true, false}
 use Prim.Native.Nat.{ℕ, _<_, _≤_}
 use borrow.Author.Needs.{needs}
 use borrow.Author.Tests.{eq-eqb, ne-eqb, le-leb, lt-leb, lt-ltb, le-ltb}
-use Rattle.base.specs.Lists.{any}
+use Rattle.base.specs.Computed.{any}
 use Rattle.base.proofs.First.{Passed, passed-none, passed-more, passed-any, passed-not-any}
 use Rattle.base.proofs.BoolLaws.{or-left, or-right, or-neither, and-both, and-left, and-right, flag, picked-then, picked-else, not-of-true, not-of-false}
 

@@ -10,8 +10,9 @@ use Rattle.base.proofs.First.{Passed, passed-hit, passed-all}
 use Rattle.base.specs.declared.Stage.{Stage}
 use Rattle.base.specs.declared.Stage.the-variants.{Refused}
 use Rattle.base.specs.declared.Stage.the-variants as stage
-use Rattle.base.specs.Answer.{done, refused, Check, passes, fails, failsAt, failsIf, andThen, answered}
+use Rattle.base.specs.Answer.{done, refused}
 use Rattle.base.specs.Code.{checkOf}
+use Rattle.base.specs.Computed.{Check, passes, fails, failsAt, failsIf, andThen, answered}
 
 -- a scan: its bound and the place were returned by calls, and are k and i
 pub fails-hit : {m n k i q : ℕ} {p : ℕ → Bool} → Passed p n i → i < n → n ≡ k → q ≡ i → p i ≡ true → fails m q ≡ failsAt m (first p k)

@@ -2,7 +2,7 @@
 use Rattle.base.specs.Words.{Bool, true, false, Option, none, some, ℕ}
 use Rattle.base.specs.declared.Stage.{Stage}
 use Rattle.base.specs.declared.Stage.the-variants.{Passed, Refused}
-use Rattle.base.specs.Answer.{Check, passes, fails}
+use Rattle.base.specs.Computed.{Check, passes, fails}
 
 -- what a stage says: it passed, or the number and the place of the refusal
 abbrev pub checkOf : Stage → Check

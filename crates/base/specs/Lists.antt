@@ -10,10 +10,6 @@ firstFrom p i (suc n) = elim (p i) [ true ↦ some i | false ↦ firstFrom p (su
 unfoldable pub first : (ℕ → Bool) → ℕ → Option ℕ
 first p n = firstFrom p 0 n
 
--- whether p holds at some number below n
-unfoldable pub any : (ℕ → Bool) → ℕ → Bool
-any p n = elim (first p n) [ none ↦ false | some i ↦ true ]
-
 -- the list start, and then the entries 0 to i - 1 that next makes, each from those before it
 unfoldable pub grow : {A : Type 0} → List A → (List A → ℕ → A) → ℕ → List A
 grow start next zero = start

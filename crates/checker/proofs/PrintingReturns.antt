@@ -7,13 +7,13 @@ use lib.ListN.{replicate, length-replicate}
 use Rattle.base.specs.Answer.{Answer, done, refused}
 use Rattle.base.specs.Lists.{Bytes}
 use Rattle.submission.specs.Record.{entries}
-use Rattle.submission.proofs.theory.ListedTerms.{claimed}
+use Rattle.submission.proofs.theory.ReadingRows.{claimed-clear}
 use Rattle.text.specs.Text.{answerText, refusedText}
 use Rattle.text.specs.Calls.{Puts}
 use Rattle.text.proofs.theory.TextLength.{accepted-whole, refused-whole}
 use Rattle.conditions.specs.declared.Verdict.{Verdict}
 use Rattle.conditions.specs.declared.Verdict.the-variants.{Accepted, Refused}
-use Rattle.conditions.specs.Check.{checkAnswer}
+use Rattle.conditions.specs.Computed.{checkAnswer}
 use Rattle.checker.specs.Calls.{verdictText, Printed}
 use Rattle.conditions.specs.Calls.{verdictAnswer, Checked}
 use Rattle.conditions.proofs.theory.Acceptance.{accepted-iff}
@@ -32,7 +32,7 @@ module _ (s : List ℕ) {page : List ℕ} (v : Verdict) (c : Checked s (replicat
       let g : answerText known (done n) page ≡ verdictText s = ap (λ k. answerText k (done n) page) f ∙ sym (text-of (done n) (ap verdictAnswer e)) in
       let a : checkAnswer s 388 ≡ done n = rw (length-replicate {A = ℕ} 388 0) at (sym (c .answer) ∙ ap verdictAnswer e) in
       let (m, w, _, _) = accepted-iff s b 388 n .0 a in
-      let z = claimed s b (w .read) .read in
+      let z = claimed-clear s b (w .read) .read in
       record {
         puts = rw g at h;
         whole = λ l. rw (← g) (accepted-whole page p known n (omega (arith, b 5)) (omega (arith, z .steps-most)) (omega (arith, z .steps-most)) h);

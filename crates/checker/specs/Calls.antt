@@ -3,7 +3,8 @@ use Rattle.base.specs.{Words._≡_, Words.List, Words.ℕ, Words._+_, Words._*_
 use Rattle.submission.specs.Record.{entries}
 use Rattle.text.specs.{Calls.Puts, Text.answerText}
 use Rattle.program.specs.Program.{bytesOf}
-use Rattle.conditions.specs.Check.{checkAnswer, program}
+use Rattle.conditions.specs.Check.{program}
+use Rattle.conditions.specs.Computed.{checkAnswer}
 
 -- an answer as one number for C: a refusal is its number and its place, 16 bits wide; what is done is its value
 abbrev pub encoded : Answer → ℕ

@@ -2,8 +2,8 @@
 use base::Answer;
 ghost use mathlib.Core.Path.{_≡_};
 ghost use Rattle.base.specs.Calls.{answerOf};
-ghost use Rattle.deduction.specs.Deduce.{deducibleAnswer};
-ghost use Rattle.machine.specs.Run.{runAnswer};
+ghost use Rattle.deduction.specs.Computed.{deducibleAnswer};
+ghost use Rattle.machine.specs.Computed.{runAnswer};
 ghost use Rattle.checker.specs.Calls.{encoded, Encoded};
 
 // An answer as one number.

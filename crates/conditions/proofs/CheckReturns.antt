@@ -12,10 +12,10 @@ use Rattle.submission.specs.declared.Reading.the-variants.{Good, Refused as Rea
 use Rattle.submission.specs.Code.{IsClaim, readingCheck, ReadingIs, Limited}
 use Rattle.base.specs.declared.Stage.{Stage}
 use Rattle.base.specs.declared.Stage.the-variants as stage
-use Rattle.base.specs.Answer.{Answer, done, refused, Check, passes, fails, andThen, answered, failsIf}
+use Rattle.base.specs.Answer.{Answer, done, refused}
 use Rattle.base.specs.Lists.{byte}
 use Rattle.submission.specs.Record.{steps}
-use Rattle.submission.specs.Check.{checks1to5}
+use Rattle.base.specs.Computed.{Check, passes, fails, andThen, answered, failsIf}
 use Rattle.base.specs.Code.{checkOf}
 use Rattle.base.proofs.AnswerLaws.{if-passes}
 use Rattle.base.proofs.StageLaws.{bytes, stage-passes}
@@ -26,11 +26,13 @@ use Rattle.derivation.specs.Code.{Registered, StepsChecked}
 use Rattle.program.specs.Program.{bytesOf, programLength}
 use Rattle.conditions.specs.declared.Verdict.{Verdict}
 use Rattle.conditions.specs.declared.Verdict.the-variants.{Accepted, Refused}
-use Rattle.conditions.specs.Check.{checks1to10, checkAnswer, checks8to10, program}
+use Rattle.conditions.specs.Check.{program}
 use Rattle.conditions.specs.Calls.{verdictAnswer, Checked}
 use Rattle.conditions.specs.Code.{Founded, Acceptable}
 use Rattle.conditions.proofs.theory.ProgramRun.{program-bytes}
 use lib.Dec.{ltb}
+use Rattle.submission.specs.Computed.{checks1to5}
+use Rattle.conditions.specs.Computed.{checks1to10, checkAnswer, checks8to10}
 
 -- ---- check 11
 module _ (s page : List ℕ) {n k : ℕ} (e : n ≡ steps s) (f : k ≡ programLength n) where

@@ -5,22 +5,22 @@ use mathlib.Core.List.{List}
 use Prim.Native.Nat.{ℕ, _<_}
 use Rattle.term.specs.Number.{hasOne}
 use Rattle.submission.specs.declared.Claim.{Claim}
-use Rattle.base.specs.Answer.{fails, failsIf}
+use Rattle.base.specs.Computed.{fails, failsIf}
 use Rattle.submission.specs.Code.{Limited, IsClaim}
 use Rattle.submission.specs.Record.{terms, steps, verifying, wayAt, secondAt}
 use Rattle.submission.specs.Way.{wayOf}
-use Rattle.submission.specs.Check.{checks1to5}
+use Rattle.submission.specs.Computed.{checks1to5}
 use Rattle.base.proofs.AnswerLaws.{then-passes}
 use Rattle.submission.proofs.PassedChecks.{limited, body-passes}
 use Rattle.submission.proofs.theory.ListedTerms.{Claimed, claimed}
 use Rattle.derivation.specs.declared.Step.{Step}
-use Rattle.derivation.specs.Step.{checkSteps, StepFits}
+use Rattle.derivation.specs.Step.{StepFits}
 use Rattle.derivation.specs.Code.{IsStep}
 use Rattle.derivation.proofs.theory.StepMeaning.{second-listed, fits-iff, steps-pass}
 use Rattle.deduction.specs.Computed.{entryMarks, isDeducible}
 use Rattle.deduction.specs.Code.{TableRead}
-use Rattle.conditions.specs.Computed.{reachable, hasSecondWay}
-use Rattle.conditions.specs.Check.{checks1to10}
+use Rattle.conditions.specs.Computed.{reachable, hasSecondWay, checks1to10}
+use Rattle.derivation.specs.Computed.{checkSteps}
 use Rattle.conditions.specs.Code.{Founded, Acceptable}
 use Rattle.conditions.proofs.theory.Acceptance.{pass-8-to-10}
 use Rattle.base.specs.Lists.{first}

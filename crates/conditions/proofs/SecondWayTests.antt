@@ -9,7 +9,7 @@ use native.Mathlib.Omega.{arith}
 use lib.Dec.{eqb, ltb}
 use lib.ListN.{getD}
 use borrow.Author.Tests.{eq-eqb, ne-eqb, lt-ltb, le-ltb}
-use Rattle.base.specs.Lists.{first, any}
+use Rattle.base.specs.Lists.{first}
 use Rattle.base.proofs.First.{first-none, first-some, passed-any, passed-not-any}
 use Rattle.base.proofs.Order.{lt-or-ge}
 use Rattle.term.specs.Number.{hasOne}
@@ -26,6 +26,7 @@ use Rattle.derivation.specs.Code.{IsStep, Registered, orNone}
 use Rattle.conditions.specs.Computed.{isPremise, samePremises, hasSecondWay}
 use Rattle.conditions.specs.Code.{otherWay}
 use Rattle.conditions.proofs.PassedFacts.{second-is}
+use Rattle.base.specs.Computed.{any}
 
 -- ---- the premises of step i, whose record is a
 module _ {s : List ℕ} {i : ℕ} {a : Step} (h : IsStep s i a) where

@@ -3,7 +3,8 @@ use Rattle.base.specs.{Words._≡_, Words.List, Words.ℕ, Words.length, Answer
 use Rattle.program.specs.Program.{bytesOf}
 use Rattle.conditions.specs.declared.Verdict.{Verdict}
 use Rattle.conditions.specs.declared.Verdict.the-variants.{Accepted, Refused}
-use Rattle.conditions.specs.Check.{checkAnswer, program}
+use Rattle.conditions.specs.Check.{program}
+use Rattle.conditions.specs.Computed.{checkAnswer}
 
 -- the answer that a verdict stands for
 abbrev pub verdictAnswer : Verdict → Answer

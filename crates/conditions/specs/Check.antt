@@ -1,26 +1,9 @@
--- What checking answers and writes: checks 8 to 11, the register program, the page. Document 01, 'Verdicts' and 'The register program'.
-use Rattle.base.specs.{Words.true, Words.cond, Words.List, Words.Option, Words.none, Words.some, Words.ℕ, Lists.listed, Words.not, Words.ltb, Lists.first, Answer.Answer, Answer.done, Answer.Check, Answer.failsAt, Answer.failsIf, Answer.andThen, Answer.answered}
+-- The register program of a submission: document 01, 'The register program'.
+use Rattle.base.specs.{Words.true, Words.cond, Words.List, Words.Option, Words.none, Words.some, Words.ℕ, Lists.listed}
 use Rattle.term.specs.Number.{hasOne}
-use Rattle.submission.specs.{Record.steps, Record.ruleAt, Record.pAt, Record.qAt, Record.conclusionAt, Record.verifying, Record.wayAt, Record.companion, Way.Way, Way.wayOf, Way.Operand, Way.verifying-result, Way.companion-result, Way.lowest-conclusion, Way.lowest-companion, Way.row, Check.checks1to5}
-use Rattle.derivation.specs.{Register.written, Register.lowestAmong, Step.checkSteps}
-use Rattle.program.specs.Program.{rowOf, Instruction, Program, programLength}
-use Rattle.conditions.specs.Computed.{reachable, hasSecondWay, undone}
-
--- 8 reachable: "condition 3 broken", place "verifying step"; 9 no second way: "condition 4 broken", place "verifying step";
--- 10 undone: "condition 5 broken", place "lowest undone step"
-abbrev pub checks8to10 : List ℕ → Check
-checks8to10 s =
-    andThen (failsIf (reachable s) 8 (verifying s))
-    (andThen (failsIf (not (hasSecondWay s (wayOf (wayAt s)))) 9 (verifying s)) (failsAt 10 (first (undone s) (steps s))))
-
--- "Order: as numbered, but 6 and 7 are tried together"
-unfoldable pub checks1to10 : List ℕ → Check
-checks1to10 s = andThen (checks1to5 s) (andThen (checkSteps s) (checks8to10 s))
-
--- the answer of checking a submission with a page of this length; 11 page: "page under 3N+4 bytes", place "length needed"
-unfoldable pub checkAnswer : List ℕ → ℕ → Answer
-checkAnswer s room =
-    answered (andThen (checks1to10 s) (failsIf (ltb room (programLength (steps s))) 11 (programLength (steps s)))) (done (steps s))
+use Rattle.submission.specs.{Record.steps, Record.ruleAt, Record.pAt, Record.qAt, Record.conclusionAt, Record.verifying, Record.wayAt, Record.companion, Way.Way, Way.wayOf, Way.Operand, Way.verifying-result, Way.companion-result, Way.lowest-conclusion, Way.lowest-companion, Way.row}
+use Rattle.derivation.specs.Register.{written, lowestAmong}
+use Rattle.program.specs.Program.{rowOf, Instruction, Program}
 
 -- the lowest register that holds the term t; every register counts
 unfoldable pub lowest : List ℕ → ℕ → ℕ

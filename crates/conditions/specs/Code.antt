@@ -2,10 +2,10 @@
 use mathlib.Core.{Path._≡_, Bool.Bool, Bool.true, Bool._&&_, Bool._||_, Bool.not, List.List}
 use Prim.Native.Nat.{ℕ, _<_}
 use lib.Dec.{eqb}
-use Rattle.base.specs.{Answer.passes, Lists.Bytes}
-use Rattle.submission.specs.{Record.steps, Record.ruleAt, Record.conclusionAt, Record.verifying, Record.companion, Way.Operand, Way.verifying-result, Way.companion-result, Way.lowest-conclusion, Way.lowest-companion, Check.checks1to5}
-use Rattle.derivation.specs.{Computed.isKnown, Step.checkSteps}
-use Rattle.conditions.specs.{Computed.samePremises, Check.checks1to10}
+use Rattle.base.specs.{Computed.passes, Lists.Bytes}
+use Rattle.submission.specs.{Record.steps, Record.ruleAt, Record.conclusionAt, Record.verifying, Record.companion, Way.Operand, Way.verifying-result, Way.companion-result, Way.lowest-conclusion, Way.lowest-companion, Computed.checks1to5}
+use Rattle.derivation.specs.{Computed.isKnown, Computed.checkSteps}
+use Rattle.conditions.specs.{Computed.samePremises, Computed.checks1to10}
 
 -- bytes that passed checks 1 to 7
 pub record Founded (s : List ℕ) : Type 0 where

@@ -1,11 +1,14 @@
--- Conditions 3 to 5 as tests of term numbers. What each says of terms is a theorem: `reachable-iff`, `second-way-iff`, `undone-iff`.
+-- Conditions 3 to 5 as tests of term numbers, and the answer of checking. What each test says of terms is a theorem (`says-reachable`,
+-- `says-second-way`, `says-undone`), and that the answer is as the rows say is another (`check-exact`).
 use mathlib.Core.{Bool.Bool, Bool.false, Bool._&&_, Bool._||_, Bool.not, List.List, Option.Option, Option.none, Option.some}
 use Prim.Native.Nat.{ℕ}
 use lib.Dec.{eqb}
 use Rattle.term.specs.Computed.{ruleTakesApart}
-use Rattle.submission.specs.{Record.steps, Record.ruleAt, Record.pAt, Record.conclusionAt, Record.verifying, Record.wayAt, Record.companion, Computed.areInverse, Way.Way, Way.another-step, Way.at-start, Way.inverse-key, Way.wayOf, Way.row, Record.secondAt}
-use Rattle.derivation.specs.Computed.{isKnown}
+use Rattle.submission.specs.{Record.steps, Record.ruleAt, Record.pAt, Record.conclusionAt, Record.verifying, Record.wayAt, Record.companion, Computed.areInverse, Way.Way, Way.another-step, Way.at-start, Way.inverse-key, Way.wayOf, Way.row, Record.secondAt, Computed.checks1to5}
+use Rattle.derivation.specs.Computed.{isKnown, checkSteps}
 use Rattle.deduction.specs.Computed.{entryMarks, isDeducible}
+use Rattle.program.specs.Program.{programLength}
+use Rattle.base.specs.{Words.ltb, Lists.first, Answer.Answer, Answer.done, Computed.Check, Computed.failsAt, Computed.failsIf, Computed.andThen, Computed.answered}
 
 -- condition 3 is broken: every premise of the verifying step is deducible from the knowledge, in which the guess does not count
 unfoldable pub reachable : List ℕ → Bool
@@ -46,3 +49,19 @@ companionUndoes s (some w) i = row w .companionKept && undoesStep s (companion s
 -- step i is undone: condition 5 is broken
 unfoldable pub undone : List ℕ → ℕ → Bool
 undone s i = undoesStep s (verifying s) i || companionUndoes s (wayOf (wayAt s)) i
+
+-- 8 reachable: "condition 3 broken", place "verifying step"; 9 no second way: "condition 4 broken", place "verifying step";
+-- 10 undone: "condition 5 broken", place "lowest undone step"
+abbrev pub checks8to10 : List ℕ → Check
+checks8to10 s =
+    andThen (failsIf (reachable s) 8 (verifying s))
+    (andThen (failsIf (not (hasSecondWay s (wayOf (wayAt s)))) 9 (verifying s)) (failsAt 10 (first (undone s) (steps s))))
+
+-- "Order: as numbered, but 6 and 7 are tried together"
+unfoldable pub checks1to10 : List ℕ → Check
+checks1to10 s = andThen (checks1to5 s) (andThen (checkSteps s) (checks8to10 s))
+
+-- the answer of checking a submission with a page of this length; 11 page: "page under 3N+4 bytes", place "length needed"
+unfoldable pub checkAnswer : List ℕ → ℕ → Answer
+checkAnswer s room =
+    answered (andThen (checks1to10 s) (failsIf (ltb room (programLength (steps s))) 11 (programLength (steps s)))) (done (steps s))

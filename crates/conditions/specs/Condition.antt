@@ -1,17 +1,15 @@
--- The five conditions, as propositions about terms: document 01, 'The five conditions'. Nothing here is computed.
-use Rattle.base.specs.{Words._≡_, Words._⊎_, Words._↔_, Words.List, Words.Option, Words.none, Words.some, Words.ℕ, Words._<_, Answer.passes}
+-- The five conditions, and the rows of the table of verdicts that checking tries, as propositions about terms: document 01, 'The five conditions'
+-- and 'Verdicts'. Nothing here is computed.
+use Rattle.base.specs.{Words._≡_, Words._⊎_, Words._↔_, Words.List, Words.[], Words._∷_, Words._++_, Words.Option, Words.none, Words.some, Words.ℕ, Words._<_, Answer.rowAt, Answer.rowAmong, Answer.Clear}
 use Rattle.term.specs.{Term.Term, Term.isKey, Term.inverse, Step.Deducible, Step.Undoes}
-use Rattle.submission.specs.{Record.steps, Record.guess, Record.verifying, Record.wayAt, Record.companion, Record.term, Record.InKnowledge, Way.Way, Way.another-step, Way.at-start, Way.inverse-key, Way.wayOf, Check.checks1to5}
-use Rattle.derivation.specs.Step.{rule, firstPremise, secondPremise, concluded, StepFits, Known}
+use Rattle.submission.specs.{Record.steps, Record.guess, Record.verifying, Record.wayAt, Record.companion, Record.term, Record.InKnowledge, Way.Way, Way.another-step, Way.at-start, Way.inverse-key, Way.wayOf, Check.rows1to5}
+use Rattle.derivation.specs.Step.{rule, firstPremise, secondPremise, concluded, Premise, StepFits, Known, rows6and7}
+use Rattle.program.specs.Program.{programLength}
 
 -- "a submission is well formed when it passes checks 1 to 5 and every step passes check 6"
 pub record WellFormed (s : List ℕ) : Type 0 where
-  pub read : checks1to5 s ≡ passes
+  pub read : Clear (rows1to5 s)
   pub shaped : (i : ℕ) → i < steps s → StepFits s i
-
--- x is in the premise set of step i; S is that of the verifying step
-abbrev pub Premise : List ℕ → ℕ → Term → Type 0
-Premise s i x = (x ≡ firstPremise s i) ⊎ (x ≡ secondPremise s i)
 
 -- "with another rule or another premise set"
 abbrev pub Differs : List ℕ → ℕ → ℕ → Type 0
@@ -29,9 +27,13 @@ SecondWay s (some at-start) =
 SecondWay s (some inverse-key) =
     isKey (concluded s (verifying s)) × (term s (companion s) ≡ inverse (concluded s (verifying s))) × Known s (steps s) (term s (companion s))
 
--- "No step anywhere in the derivation is undone by" step j
-abbrev pub UndoesNone : List ℕ → ℕ → Type 0
-UndoesNone s j = (i : ℕ) → i < steps s → Undoes (rule s j) (firstPremise s j) (concluded s j) (rule s i) (firstPremise s i) (concluded s i) → ⊥
+-- step j undoes step i
+abbrev pub UndoneBy : List ℕ → ℕ → ℕ → Type 0
+UndoneBy s j i = Undoes (rule s j) (firstPremise s j) (concluded s j) (rule s i) (firstPremise s i) (concluded s i)
+
+-- step i "is undone by the verifying step", or "in way a by the companion"
+abbrev pub Undone : List ℕ → ℕ → Type 0
+Undone s i = UndoneBy s (verifying s) i ⊎ ((wayOf (wayAt s) ≡ some another-step) × UndoneBy s (companion s) i)
 
 pub record FiveConditions (s : List ℕ) : Type 0 where
   -- 1. "Every step is founded."
@@ -42,5 +44,16 @@ pub record FiveConditions (s : List ℕ) : Type 0 where
   pub hidden : (x : Term) × Premise s (verifying s) x × (Deducible (InKnowledge s) x → ⊥)
   pub secondWay : SecondWay s (wayOf (wayAt s))
   -- 5. "No step anywhere in the derivation is undone by the verifying step, nor in way a by the companion."
-  pub kept : UndoesNone s (verifying s)
-  pub companionKept : wayOf (wayAt s) ≡ some another-step → UndoesNone s (companion s)
+  pub kept : (i : ℕ) → i < steps s → Undone s i → ⊥
+
+-- "Order: as numbered": 8 reachable, 9 no second way and 10 undone are conditions 3, 4 and 5 broken; 11 page is "page under 3N+4 bytes", room being
+-- the page's length
+abbrev pub checkRows : List ℕ → ℕ → List (ℕ → ℕ → Type 0)
+checkRows s room =
+    rows1to5 s
+    ++ rows6and7 s
+    ∷ rowAt 8 (verifying s) ((x : Term) → Premise s (verifying s) x → Deducible (InKnowledge s) x)
+    ∷ rowAt 9 (verifying s) (SecondWay s (wayOf (wayAt s)) → ⊥)
+    ∷ rowAmong 10 (steps s) (Undone s)
+    ∷ rowAt 11 (programLength (steps s)) (room < programLength (steps s))
+    ∷ []

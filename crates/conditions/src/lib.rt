@@ -15,12 +15,13 @@ ghost use Rattle.submission.specs.Code.{IsClaim};
 ghost use Rattle.derivation.specs.Register.{written};
 ghost use Rattle.derivation.specs.Code.{Registered};
 ghost use Rattle.conditions.specs.Code.{Acceptable};
-ghost use Rattle.base.specs.Answer.{done, answered, failsIf};
+ghost use Rattle.base.specs.Answer.{done};
 ghost use Rattle.base.specs.Code.{checkOf};
 ghost use Rattle.base.specs.Calls.{answerOf};
 ghost use Rattle.conditions.specs.Calls.{verdictAnswer, Checked};
 ghost use lib.Dec.{ltb};
 ghost use Rattle.program.specs.Program.{programLength};
+ghost use Rattle.base.specs.Computed.{answered, failsIf};
 
 // An acceptance carries the count of steps, a refusal its number and place.
 pub enum Verdict {

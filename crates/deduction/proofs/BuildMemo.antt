@@ -13,7 +13,7 @@ use Rattle.term.specs.Table.{Rec, leaf, branch}
 use Rattle.term.specs.Code.{Below, isUnary}
 use Rattle.submission.specs.declared.Term.{Term}
 use Rattle.submission.specs.Code.{IsTerm}
-use Rattle.term.specs.Term.{Shape, atomic, compound, isAtomic}
+use Rattle.term.specs.Term.{Shape, atomic, compound}
 use Rattle.term.specs.Number.{shapeOf}
 use Rattle.submission.specs.Record.{terms, kindAt, xAt, yAt, nameAt, recordOf, recordAt}
 use Rattle.deduction.specs.declared.Parts.{Parts}
@@ -22,6 +22,7 @@ use Rattle.deduction.specs.Computed.{at, partsBuilt, built}
 use Rattle.deduction.specs.Code.{TableRead, marksOf, partsOf, code, Memo, Decided, Unbuilt}
 use Rattle.deduction.proofs.theory.BuildTestLaws.{built-eq}
 use Rattle.deduction.proofs.MarkArrays.{facts, set-here, each-set, zeros, at-marks}
+use Rattle.term.specs.Computed.{isAtomic}
 
 pub shape-record : (s : List ℕ) (t : ℕ) (z : Shape) → shapeOf (kindAt s t) ≡ some z → recordAt s t ≡ recordOf (some z) (nameAt s t) (xAt s t) (yAt s t)
 unfolding recordAt

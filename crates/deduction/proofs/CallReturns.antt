@@ -10,15 +10,15 @@ use lib.ListN.{getD}
 use borrow.Author.Tests.{eq-eqb, ne-eqb, lt-ltb, le-ltb}
 use Rattle.base.specs.declared.Stage.{Stage}
 use Rattle.base.specs.declared.Stage.the-variants.{Passed, Refused}
-use Rattle.base.specs.Answer.{done, refused, answered}
+use Rattle.base.specs.Answer.{done, refused}
 use Rattle.base.specs.Lists.{Bytes}
 use Rattle.submission.specs.Record.{terms}
 use Rattle.base.specs.Code.{checkOf}
 use Rattle.base.specs.Calls.{answerOf}
-use Rattle.submission.specs.Check.{checks1to4}
+use Rattle.base.specs.Computed.{answered}
 use Rattle.base.specs.declared.Answer.{Answer}
-use Rattle.deduction.specs.Computed.{built, entryMarks, isDeducible}
-use Rattle.deduction.specs.Deduce.{deducibleAnswer}
+use Rattle.deduction.specs.Computed.{built, entryMarks, isDeducible, deducibleAnswer}
+use Rattle.submission.specs.Computed.{checks1to4}
 use Rattle.deduction.specs.Code.{TableRead, marksOf, SameMarks, code, Decided, Unbuilt, Exact}
 use Rattle.deduction.proofs.theory.Exactness.{same-start}
 use Rattle.deduction.proofs.MarkArrays.{facts}

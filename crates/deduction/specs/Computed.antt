@@ -1,13 +1,14 @@
 -- Deducibility computed: terms are first taken apart, as far as the keys that can be built allow; a term is deducible when it can be built from
--- what that reaches. That this is what finite lists of steps reach is a theorem: `from-marks-exact`, `yes-exact`, `no-exact`.
+-- what that reaches. That this is what finite lists of steps reach is a theorem: `from-marks-exact`, `deducible-exact`.
 use mathlib.Core.{Path._≡_, Bool.Bool, Bool.true, Bool.false, Bool._&&_, Bool._||_, List.List}
 use Prim.Native.Nat.{ℕ, zero, suc, _<_}
 use lib.{Dec.eqb, ListN.getD}
-use Rattle.base.specs.Lists.{any, listed}
+use Rattle.base.specs.Lists.{listed}
 use Rattle.term.specs.{Term.Cipher, Term.symmetric, Term.asymmetric, Term.pair, Term.encryption, Term.make, Term.part, Term.decrypt, Table.Rec, Table.leaf, Table.branch}
-use Rattle.submission.specs.{Record.terms, Record.entries, Record.entryAt, Record.recordAt, Computed.areInverse}
+use Rattle.submission.specs.{Record.terms, Record.entries, Record.entryAt, Record.recordAt, Computed.areInverse, Computed.checks1to4}
 use Rattle.term.specs.Term.{Term}
 use Rattle.submission.specs.Record.{term}
+use Rattle.base.specs.{Words.not, Words.cond, Words.ltb, Answer.Answer, Answer.done, Computed.any, Computed.failsIf, Computed.andThen, Computed.answered}
 
 -- a mark for each term number
 abbrev pub at : List Bool → ℕ → Bool
@@ -65,3 +66,8 @@ isDeducible s m n = built s (rounds s m (terms s)) n
 -- a term that m marks: what m says of a number that is not below T says nothing of a term
 abbrev pub Marked : List ℕ → List Bool → Term → Type 0
 Marked s m t = (n : ℕ) × (n < terms s) × ((at m n ≡ true) × (t ≡ term s n))
+
+-- "Deducible makes checks 1 to 4, then 12"
+unfoldable pub deducibleAnswer : List ℕ → ℕ → Answer
+deducibleAnswer s n =
+    answered (andThen (checks1to4 s) (failsIf (not (ltb n (terms s))) 12 0)) (done (cond (isDeducible s (entryMarks s) n) 1 0))

@@ -1,12 +1,15 @@
--- The answer of deducible: document 01, 'Dolev-Yao steps' and 'Verdicts'. It is yes exactly for what is `Deducible`: `yes-exact`, `no-exact`.
-use Rattle.base.specs.{Words._≡_, Words.not, Words.cond, Words.List, Words.ℕ, Words._<_, Words.ltb, Answer.Answer, Answer.done, Answer.failsIf, Answer.andThen, Answer.answered}
-use Rattle.submission.specs.{Record.terms, Record.entries, Record.entryAt, Record.recordAt, Check.checks1to4}
-use Rattle.deduction.specs.Computed.{entryMarks, isDeducible}
+-- What deducible answers: document 01, 'Dolev-Yao steps' and 'Verdicts'.
+use Rattle.base.specs.{Words._≡_, Words._⊎_, Words.List, Words.[], Words._∷_, Words._++_, Words.ℕ, Words._<_, Words._≤_, Answer.rowAt}
+use Rattle.term.specs.Step.{Deducible}
+use Rattle.submission.specs.{Record.terms, Record.entries, Record.entryAt, Record.recordAt, Record.term, Record.InKnowledge, Check.rows1to4}
 
--- "Deducible makes checks 1 to 4, then 12": "deducible asked for a number not below T"
-unfoldable pub deducibleAnswer : List ℕ → ℕ → Answer
-deducibleAnswer s n =
-    answered (andThen (checks1to4 s) (failsIf (not (ltb n (terms s))) 12 0)) (done (cond (isDeducible s (entryMarks s) n) 1 0))
+-- "Deducible makes checks 1 to 4, then 12": 12 no such term, "deducible asked for a number not below T"
+abbrev pub deducibleRows : List ℕ → ℕ → List (ℕ → ℕ → Type 0)
+deducibleRows s n = rows1to4 s ++ rowAt 12 0 (terms s ≤ n) ∷ []
+
+-- 1 is yes and 0 is no
+abbrev pub DeducibleValue : List ℕ → ℕ → ℕ → Type 0
+DeducibleValue s n v = ((v ≡ 1) × Deducible (InKnowledge s) (term s n)) ⊎ ((v ≡ 0) × (Deducible (InKnowledge s) (term s n) → ⊥))
 
 -- "The answer is the same for two submissions alike in terms and knowledge that both pass checks 1 to 4.": they are alike
 pub record Alike (s s′ : List ℕ) : Type 0 where

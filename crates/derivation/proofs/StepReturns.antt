@@ -9,7 +9,7 @@ use lib.ListN.{getD}
 use borrow.Author.Tests.{ne-eqb}
 use Rattle.base.proofs.First.{Passed as PassedTo, passed-more, passed-hit, passed-all}
 use Rattle.term.specs.Number.{hasOne}
-use Rattle.base.specs.Answer.{passes, fails, failsIf, andThen}
+use Rattle.base.specs.Computed.{passes, fails, failsIf, andThen}
 use Rattle.submission.specs.Record.{steps, secondAt}
 use Rattle.base.specs.Code.{checkOf}
 use Rattle.base.specs.declared.Stage.{Stage}
@@ -17,7 +17,7 @@ use Rattle.base.specs.declared.Stage.the-variants.{Passed, Refused}
 use Rattle.derivation.specs.declared.Step.{Step}
 use Rattle.derivation.specs.declared.Registers.{Registers}
 use Rattle.derivation.specs.Register.{written}
-use Rattle.derivation.specs.{Computed.badStep, Computed.unfounded, Step.checkSteps}
+use Rattle.derivation.specs.{Computed.badStep, Computed.unfounded, Computed.checkSteps}
 use Rattle.derivation.specs.Code.{IsStep, Registered, checkStep, StepsChecked}
 use Rattle.derivation.proofs.RegistersHeld.{held-any}
 

@@ -9,7 +9,7 @@ use Rattle.base.proofs.Says.{says-eqb, same-test}
 use Rattle.term.specs.Term.{symmetric, asymmetric, left, right, Form, encryption, Head, make, part, decrypt, compound}
 use Rattle.term.specs.{Number.shapeOf, Computed.kindOf}
 use Rattle.term.specs.Code.{builderOf, ruleOf}
-use Rattle.term.specs.Number.{rules, isRule, headOf}
+use Rattle.term.specs.Number.{rules, headOf}
 use Rattle.term.proofs.Kind.{says-builder}
 use Rattle.term.proofs.Rule.{head-rule, rule-head}
 use Rattle.submission.specs.Record.{terms}
@@ -18,6 +18,7 @@ use Rattle.submission.specs.declared.Term.{Term}
 use Rattle.derivation.specs.declared.Step.{Step}
 use Rattle.derivation.specs.Computed.{isRecord, follows, badStep}
 use Rattle.derivation.specs.Code.{IsStep}
+use Rattle.term.specs.Computed.{isRule}
 
 -- ---- the table of steps, read off the records of the first premise and the conclusion
 module _ {s : List ℕ} {n : ℕ} {t : Term} (h : IsTerm s n t) where

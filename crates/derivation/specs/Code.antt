@@ -2,13 +2,13 @@
 use mathlib.Core.{Path._≡_, Bool.Bool, Bool.cond, List.List, Option.Option, Option.none, Option.some}
 use Prim.Native.Nat.{ℕ, _+_, _<_}
 use lib.{Dec.eqb, ListN.getD, ListN.set}
-use Rattle.base.specs.{Answer.Check, Answer.failsIf, Answer.andThen, Code.checkOf}
+use Rattle.base.specs.{Computed.Check, Computed.failsIf, Computed.andThen, Code.checkOf}
 use Rattle.submission.specs.Record.{steps, ruleAt, pAt, qAt, conclusionAt}
 use Rattle.base.specs.declared.Stage.the-variants.{Passed}
 use Rattle.derivation.specs.declared.Step.{Step}
 use Rattle.derivation.specs.declared.Registers.{Registers}
 use Rattle.derivation.specs.declared.StepsAnswer.{StepsAnswer}
-use Rattle.derivation.specs.{Register.written, Register.lowestAmong, Computed.every, Computed.badStep, Computed.unfounded, Step.checkSteps}
+use Rattle.derivation.specs.{Register.written, Register.lowestAmong, Computed.every, Computed.badStep, Computed.unfounded, Computed.checkSteps}
 
 -- r holds step i
 pub record IsStep (s : List ℕ) (i : ℕ) (r : Step) : Type 0 where

@@ -1,8 +1,12 @@
 -- Checks 6 and 7 as tests of term numbers. What they say of terms is in `Step`, by the theorems `fits-iff` and `founded-terms`.
-use Rattle.base.specs.{Words.Bool, Words.true, Words._&&_, Words.not, Words.List, Words.ℕ, Words.eqb, Words.ltb, Lists.any}
-use Rattle.term.specs.{Term.Cipher, Term.symmetric, Term.asymmetric, Term.Side, Term.left, Term.right, Term.pair, Term.encryption, Term.Head, Term.make, Term.part, Term.decrypt, Term.compound, Computed.kindOf, Number.isRule, Number.headOf}
-use Rattle.submission.specs.{Record.terms, Record.kindAt, Record.xAt, Record.yAt, Record.ruleAt, Record.pAt, Record.qAt, Record.secondAt, Record.conclusionAt, Computed.areInverse}
-use Rattle.derivation.specs.Register.{written, holdsTerm}
+use Rattle.base.specs.{Words.Bool, Words.true, Words._&&_, Words._||_, Words.not, Words.cond, Words.List, Words.Option, Words.none, Words.some, Words.ℕ, Words.eqb, Words.ltb, Lists.first, Computed.any, Computed.Check, Computed.passes, Computed.fails}
+use Rattle.term.specs.{Term.Cipher, Term.symmetric, Term.asymmetric, Term.Side, Term.left, Term.right, Term.pair, Term.encryption, Term.Head, Term.make, Term.part, Term.decrypt, Term.compound, Computed.kindOf, Computed.isRule, Number.headOf}
+use Rattle.submission.specs.{Record.terms, Record.steps, Record.kindAt, Record.xAt, Record.yAt, Record.ruleAt, Record.pAt, Record.qAt, Record.secondAt, Record.conclusionAt, Computed.areInverse}
+use Rattle.derivation.specs.Register.{registerTerm, written}
+
+-- register r counts, and holds the term t
+abbrev pub holdsTerm : (ℕ → Bool) → List ℕ → ℕ → ℕ → Bool
+holdsTerm counts s t r = counts r && eqb (registerTerm s r) t
 
 -- a register that counts and is written before step i holds the term t
 abbrev pub knownAmong : (ℕ → Bool) → List ℕ → ℕ → ℕ → Bool
@@ -43,3 +47,11 @@ badStep s i =
 -- step i fails check 7
 unfoldable pub unfounded : List ℕ → ℕ → Bool
 unfounded s i = not (isKnown s i (pAt s i) && isKnown s i (secondAt s i))
+
+-- "6 and 7 are tried together, step by step"
+abbrev pub stepFault : List ℕ → Option ℕ → Check
+stepFault s none = passes
+stepFault s (some i) = fails (cond (badStep s i) 6 7) i
+
+unfoldable pub checkSteps : List ℕ → Check
+checkSteps s = stepFault s (first (λ i. badStep s i || unfounded s i) (steps s))

@@ -10,10 +10,6 @@ registerTerm s r = cond (ltb r (entries s)) (entryAt s r) (cond (eqb r (entries 
 abbrev pub written : List ℕ → ℕ → ℕ
 written s i = entries s + 1 + i
 
--- register r counts, and holds the term t
-abbrev pub holdsTerm : (ℕ → Bool) → List ℕ → ℕ → ℕ → Bool
-holdsTerm counts s t r = counts r && eqb (registerTerm s r) t
-
 -- the lowest of the first n registers that counts and holds the term t
 abbrev pub lowestAmong : (ℕ → Bool) → List ℕ → ℕ → ℕ → Option ℕ
-lowestAmong counts s n t = first (holdsTerm counts s t) n
+lowestAmong counts s n t = first (λ r. counts r && eqb (registerTerm s r) t) n

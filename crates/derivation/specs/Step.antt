@@ -1,8 +1,7 @@
--- The steps of a derivation, and checks 6 and 7: document 01, 'Dolev-Yao steps' and 'Verdicts'.
-use Rattle.base.specs.{Words._≡_, Words._⊎_, Words.true, Words._||_, Words.cond, Words.List, Words.Option, Words.none, Words.some, Words.ℕ, Words._<_, Lists.first, Answer.Check, Answer.passes, Answer.fails}
+-- The steps of a derivation, and rows 6 and 7 of the table of verdicts: document 01, 'Dolev-Yao steps' and 'Verdicts'.
+use Rattle.base.specs.{Words._≡_, Words._⊎_, Words.true, Words.List, Words.ℕ, Words._<_, Answer.rowAmong, Answer.together}
 use Rattle.term.specs.{Term.Head, Term.Term, Number.rules, Number.headOf, Number.hasOne, Step.Step}
 use Rattle.submission.specs.Record.{terms, steps, ruleAt, pAt, qAt, secondAt, conclusionAt, guess, term, InKnowledge}
-use Rattle.derivation.specs.Computed.{badStep, unfounded}
 
 -- the rule, the two premises and the conclusion of step i, as terms
 abbrev pub rule : List ℕ → ℕ → Head
@@ -17,7 +16,11 @@ secondPremise s i = term s (secondAt s i)
 abbrev pub concluded : List ℕ → ℕ → Term
 concluded s i = term s (conclusionAt s i)
 
--- Step i passes check 6, which `badStep` computes (`fits-iff`): not "rule, number or shape wrong". "Rules 1 and 2 have q = 0."
+-- x is in the premise set of step i; S is that of the verifying step
+abbrev pub Premise : List ℕ → ℕ → Term → Type 0
+Premise s i x = (x ≡ firstPremise s i) ⊎ (x ≡ secondPremise s i)
+
+-- step i is right in rule, numbers and shape. "Rules 1 and 2 have q = 0."
 pub record StepFits (s : List ℕ) (i : ℕ) : Type 0 where
   pub rule-below : ruleAt s i < rules
   pub p-below : pAt s i < terms s
@@ -30,10 +33,6 @@ pub record StepFits (s : List ℕ) (i : ℕ) : Type 0 where
 abbrev pub Known : List ℕ → ℕ → Term → Type 0
 Known s i t = InKnowledge s t ⊎ ((t ≡ term s (guess s)) ⊎ ((j : ℕ) × (j < i) × (t ≡ concluded s j)))
 
--- "6 and 7 are tried together, step by step". Check 7, "a premise not known", is what `unfounded` computes (`founded-terms`).
-abbrev pub stepFault : List ℕ → Option ℕ → Check
-stepFault s none = passes
-stepFault s (some i) = fails (cond (badStep s i) 6 7) i
-
-unfoldable pub checkSteps : List ℕ → Check
-checkSteps s = stepFault s (first (λ i. badStep s i || unfounded s i) (steps s))
+-- "6 and 7 are tried together, step by step": 6 step, "rule, number or shape wrong"; 7 unfounded, "a premise not known"
+abbrev pub rows6and7 : List ℕ → ℕ → ℕ → Type 0
+rows6and7 s = together (rowAmong 6 (steps s) (λ i. StepFits s i → ⊥)) (rowAmong 7 (steps s) (λ i. (x : Term) × Premise s i x × (Known s i x → ⊥)))

@@ -1,7 +1,7 @@
 -- What the call `run` promises.
 use Rattle.base.specs.{Words._≡_, Words.List, Words.ℕ, Calls.answerOf}
 use Rattle.base.specs.declared.Answer.{Answer}
-use Rattle.machine.specs.Run.{runAnswer}
+use Rattle.machine.specs.Computed.{runAnswer}
 
 -- the answer r on the submission s, the name and the program: the signal, or the refusal
 abbrev pub Ran : List ℕ → ℕ → List ℕ → Answer → Type 0

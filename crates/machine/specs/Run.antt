@@ -1,8 +1,8 @@
 -- The machine: document 01, 'Machine'. "Run takes a submission, a 16-bit name and a program."
-use Rattle.base.specs.{Words.Bool, Words.true, Words.false, Words.cond, Words.List, Words.[], Words._∷_, Words._++_, Words.Option, Words.none, Words.some, Words.ℕ, Words.getD, Lists.grow, Lists.listed, Answer.Answer, Answer.done, Answer.failsIf, Answer.andThen, Answer.answered, Lists.byte, Words.ite}
+use Rattle.base.specs.{Words.Bool, Words.true, Words.false, Words.cond, Words.ite, Words.List, Words.[], Words._∷_, Words._++_, Words.Option, Words.none, Words.some, Words.ℕ, Words.getD, Lists.grow, Lists.listed, Lists.byte, Answer.rowAt}
 use Rattle.term.specs.{Term.Kind, Term.plain, Term.asymmetric, Term.Shape, Term.atomic, Term.compound, Term.Term, Term.atom, Computed.term?, Number.shapeOf, Table.void, Reduce.op, Computed.match?, Number.headOf, Term.Relation, Term.equal, Term.inverses}
-use Rattle.submission.specs.{Record.entries, Record.entryAt, Record.guess, Record.kindAt, Record.term, Check.checks1to5}
-use Rattle.program.specs.Program.{relationOf, Instruction, instructionAt, testAt, operand, badProgram}
+use Rattle.submission.specs.{Record.entries, Record.entryAt, Record.guess, Record.kindAt, Record.term, Check.rows1to5}
+use Rattle.program.specs.Program.{relationOf, Instruction, instructionAt, testAt, operand, ProgramFits}
 
 abbrev pub atomKind : Option Shape → Kind
 atomKind none = plain
@@ -37,6 +37,6 @@ signals vs t = holds (relationOf (t .rule)) (getD vs (t .left) void) (getD vs (t
 unfoldable pub signal : List ℕ → ℕ → List ℕ → ℕ
 signal s name P = cond (signals (registers s name P (byte P 0)) (testAt P)) 1 0
 
--- "run makes 1 to 5, then 13"
-unfoldable pub runAnswer : List ℕ → ℕ → List ℕ → Answer
-runAnswer s name P = answered (andThen (checks1to5 s) (failsIf (badProgram s P) 13 0)) (done (signal s name P))
+-- "run makes 1 to 5, then 13": 13 program
+abbrev pub runRows : List ℕ → List ℕ → List (ℕ → ℕ → Type 0)
+runRows s P = rows1to5 s ++ rowAt 13 0 (ProgramFits s P → ⊥) ∷ []

@@ -19,11 +19,12 @@ ghost use Rattle.term.specs.Term.{pair, make, pick};
 ghost use Rattle.term.specs.Code.{ruleOf, relationIs};
 ghost use Rattle.submission.specs.Record.{terms as termCount, entries as entryCount, recordAt};
 ghost use mathlib.Core.Option.{some};
-ghost use Rattle.program.specs.Program.{relationOf, testAt, badProgram};
+ghost use Rattle.program.specs.Program.{relationOf, testAt};
 ghost use Rattle.program.specs.Code.{instructionIn};
 ghost use Rattle.machine.specs.Run.{executed as executedTerm, signals};
 ghost use Rattle.machine.specs.Calls.{Ran};
 ghost use Rattle.machine.specs.Code.{sideOf, nodeFor, nodeOf, operandsOf, sameNode, partsOfOne, inverseNodes, matchNodes, isNodeFrom, foundOf, orFound, valueOf, when, values, Executable, Valued, Gives, SubmissionRead, knowledge, Loaded, Started, Running, Testable};
+ghost use Rattle.program.specs.Computed.{badProgram};
 
 // ---- Terms as nodes.
 

@@ -9,7 +9,8 @@ use Rattle.program.specs.declared.Instruction.{Instruction as Instructio
 use Rattle.program.specs.declared.Test.{Test as TestRead}
 use Rattle.program.specs.declared.Program.{Program as ProgramRead}
 use Rattle.term.specs.{Term.Relation, Code.relationIs}
-use Rattle.program.specs.Program.{relationOf, Instruction, Program, testAt, badProgram}
+use Rattle.program.specs.Program.{relationOf, Instruction, Program, testAt}
+use Rattle.program.specs.Computed.{badProgram}
 
 abbrev pub relationIn : Asked → Option Relation
 relationIn (Asks r) = some (relationIs r)

@@ -1,2 +1,3 @@
 pub mod Code
+pub mod Computed
 pub mod Program

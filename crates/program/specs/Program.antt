@@ -1,6 +1,6 @@
--- Register programs: their tests, instructions and bytes, and check 13. Document 01, 'The register program' and 'Verdicts'.
-use Rattle.base.specs.{Words.cond, Words.List, Words.[], Words._∷_, Words.Option, Words.none, Words.some, Words.ℕ, Words.eqb, Words.Bool, Words.true, Words._&&_, Words._||_, Words.not, Words._++_, Words._+_, Words._*_, Words.ltb, Words.length, Lists.any, Lists.byte}
-use Rattle.term.specs.{Term.Relation, Term.equal, Term.inverses, Number.isRule, Number.hasOne}
+-- Register programs: their tests, instructions and bytes, and what row 13 asks of them. Document 01, 'The register program' and 'Verdicts'.
+use Rattle.base.specs.{Words._≡_, Words.Bool, Words.true, Words.false, Words.cond, Words.List, Words.[], Words._∷_, Words._++_, Words.Option, Words.none, Words.some, Words.ℕ, Words._+_, Words._*_, Words._<_, Words._≤_, Words.eqb, Words.length, Lists.byte}
+use Rattle.term.specs.{Term.Relation, Term.equal, Term.inverses, Number.rules, Number.hasOne}
 use Rattle.submission.specs.Record.{entries}
 
 -- a test's letter, how many registers it names (the byte of one that it does not name is 0), and its printed word
@@ -55,24 +55,16 @@ testAt P = instructionAt P (byte P 0)
 abbrev pub operand : Instruction → ℕ
 operand i = cond (hasOne (i .rule)) (i .left) (i .right)
 
--- the registers named are among the n that are written, and an unused byte is 0
-abbrev pub goodRegisters : ℕ → Bool → ℕ → ℕ → Bool
-goodRegisters n one left right = ltb left n && cond one (eqb right 0) (ltb right n)
+-- an instruction's registers are among the n that are written, and an unused byte is 0
+abbrev pub RegistersFit : ℕ → Bool → Instruction → Type 0
+RegistersFit n one i = (i .left < n) × (one ≡ true → i .right ≡ 0) × (one ≡ false → i .right < n)
 
--- an instruction before which n registers are written: "rule; register not yet written; unused byte not 0"
-unfoldable pub badInstruction : ℕ → Instruction → Bool
-badInstruction n i = not (isRule (i .rule) && goodRegisters n (hasOne (i .rule)) (i .left) (i .right))
-
--- a test over n registers: "register not yet written; unused byte not 0; test letter"
-unfoldable pub badTest : ℕ → Instruction → Bool
-badTest n t =
-    elim (relationOf (t .rule)) [ none ↦ true | some r ↦ not (goodRegisters n (eqb (rowOf r .registers) 1) (t .left) (t .right)) ]
-
--- 13 program: "empty; length not 3n+4 or n over 128, n the first byte; rule; register not yet written; unused byte not 0; test letter"
-unfoldable pub badProgram : List ℕ → List ℕ → Bool
-badProgram s P =
-    eqb (length P) 0
-    || (ltb 128 (byte P 0)
-    || (not (eqb (length P) (programLength (byte P 0)))
-    || (any (λ i. badInstruction (entries s + 1 + i) (instructionAt P i)) (byte P 0)
-    || badTest (entries s + 1 + byte P 0) (testAt P))))
+-- not "empty; length not 3n+4 or n over 128, n the first byte; rule; register not yet written; unused byte not 0; test letter"
+pub record ProgramFits (s P : List ℕ) : Type 0 where
+  pub few : byte P 0 ≤ 128
+  pub long : length P ≡ programLength (byte P 0)
+  pub rules-right : (i : ℕ) → i < byte P 0 → instructionAt P i .rule < rules
+  pub registers-right : (i : ℕ) → i < byte P 0 → RegistersFit (entries s + 1 + i) (hasOne (instructionAt P i .rule)) (instructionAt P i)
+  pub relation : Relation
+  pub letter-right : relationOf (testAt P .rule) ≡ some relation
+  pub test-right : RegistersFit (entries s + 1 + byte P 0) (eqb (rowOf relation .registers) 1) (testAt P)

@@ -7,10 +7,12 @@ ghost use mathlib.Core.List.{[], _∷_, _++_};
 ghost use Prim.Native.Nat.{_+_, _*_, _≤_, _<_};
 ghost use lib.ListN.{length, set, drop};
 ghost use lib.Seq.{sets};
-ghost use Rattle.base.specs.Lists.{any, listed, byte as byteAt};
+ghost use Rattle.base.specs.Lists.{listed, byte as byteAt};
 ghost use Rattle.term.specs.Code.{relationIs};
-ghost use Rattle.program.specs.Program.{rowOf, relationOf, instructionBytes, bytesOf, programLength, instructionAt, testAt, operand, goodRegisters, badInstruction, badTest, badProgram};
+ghost use Rattle.program.specs.Program.{rowOf, relationOf, instructionBytes, bytesOf, programLength, instructionAt, testAt, operand};
 ghost use Rattle.program.specs.Code.{relationIn, asked, instructionIn, testIn, heldAt, programIn};
+ghost use Rattle.base.specs.Computed.{any};
+ghost use Rattle.program.specs.Computed.{goodRegisters, badInstruction, badTest, badProgram};
 
 // ---- The tests, as specs/Program.antt lists them.
 

@@ -7,8 +7,8 @@ use Prim.Native.Nat.{ℕ}
 use native.Mathlib.Omega.{arith}
 use lib.Dec.{eqb, ltb}
 use borrow.Author.Tests.{ne-eqb}
-use Rattle.base.specs.Answer.{passes, fails, failsIf}
-use Rattle.term.specs.Term.{isAtomic}
+use Rattle.base.specs.Computed.{passes, fails, failsIf}
+use Rattle.term.specs.Computed.{isAtomic}
 use Rattle.term.specs.Number.{shapeOf}
 use Rattle.submission.specs.declared.Term.{Term}
 use Rattle.submission.specs.declared.Claim.{Claim}
@@ -25,8 +25,8 @@ use Rattle.base.specs.declared.Stage.{Stage}
 use Rattle.base.specs.declared.Stage.the-variants as stage
 use Rattle.base.specs.Code.{checkOf}
 use Rattle.submission.specs.Record.{terms, steps, kindAt, guess, verifying, wayAt}
-use Rattle.submission.specs.Way.{wayOf, row, inRange, claimFits}
-use Rattle.submission.specs.Check.{goodClaim, checks1to4, checks1to5}
+use Rattle.submission.specs.Way.{wayOf, row}
+use Rattle.submission.specs.Computed.{inRange, claimFits, goodClaim, checks1to4, checks1to5}
 use Rattle.submission.specs.Code.{IsTerm, wayIs, letterIs, rangeIs, rowIs, IsClaimBytes, IsClaim, readingCheck, ReadingIs}
 
 refused-not-good : {A : Type 0} {number place : ℕ} {c : Claim} → Refused number place ≡ Good c → A

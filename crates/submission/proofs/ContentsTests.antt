@@ -6,9 +6,10 @@ use Prim.Native.Nat.{ℕ, _*_, _<_, _≤_}
 use lib.Dec.{eqb}
 use borrow.Author.Tests.{eq-eqb, ne-eqb, lt-ltb, le-ltb}
 use mathlib.Core.Option.{none, some}
-use Rattle.base.specs.{Lists.any, Lists.first, Lists.firstFrom, Code.isSome}
+use Rattle.base.specs.{Computed.any, Lists.first, Lists.firstFrom, Code.isSome}
 use Rattle.base.specs.Lists.{byte}
-use Rattle.submission.specs.Record.{letter, count, least, most, badCount}
+use Rattle.submission.specs.Record.{letter, count, least, most}
+use Rattle.submission.specs.Computed.{badCount}
 
 module _ (s : List ℕ) (i : ℕ) {r : ℕ} where
   pub letter-wrong : r ≡ byte s (4 * i) → (r ≡ letter i → ⊥) → not (eqb (byte s (4 * i)) (letter i)) ≡ true

@@ -7,10 +7,10 @@ use native.Mathlib.Omega.{arith}
 use lib.Dec.{ltb}
 use borrow.Author.Tests.{ltb-false}
 use Rattle.base.proofs.Says.{or-false}
-use Rattle.base.specs.Answer.{passes, failsIf}
-use Rattle.submission.specs.Record.{count, least, most, badCount}
+use Rattle.base.specs.Computed.{passes, failsIf}
+use Rattle.submission.specs.Record.{count, least, most}
 use Rattle.submission.specs.Code.{Limited}
-use Rattle.submission.specs.Check.{checks1to4, checks1to5, goodClaim}
+use Rattle.submission.specs.Computed.{badCount, checks1to4, checks1to5, goodClaim}
 use Rattle.base.proofs.AnswerLaws.{then-passes}
 use Rattle.submission.proofs.theory.ListedTerms.{pass-2-to-4}
 

@@ -13,17 +13,18 @@ use lib.ListN.{length, getD, set, replicate, length-set, length-replicate, getD-
 use lib.Seq.{getD-set-same, getD-set-other}
 use borrow.Author.Count.{below-more}
 use borrow.Author.Tests.{eq-eqb, ne-eqb, lt-ltb, le-ltb}
-use Rattle.base.specs.{Lists.any, Code.isSome}
+use Rattle.base.specs.{Computed.any, Code.isSome}
 use Rattle.base.proofs.Order.{lt-or-ge}
 use Rattle.base.proofs.First.{first-found}
 use Rattle.base.proofs.Scan.{false-any}
-use Rattle.term.specs.Term.{Shape, atomic, compound, takes, isAtomic}
+use Rattle.term.specs.Term.{Shape, atomic, compound}
 use Rattle.term.specs.Number.{shapeOf}
 use Rattle.term.specs.Code.{isUnary, secondOf}
 use Rattle.submission.specs.declared.Term.{Term}
 use Rattle.submission.specs.Record.{kindAt, xAt, yAt}
-use Rattle.submission.specs.Check.{shapeFits, sameRecord}
+use Rattle.term.specs.Computed.{takes, isAtomic}
 use Rattle.submission.specs.Code.{IsTerm, Latest, Chained}
+use Rattle.submission.specs.Computed.{shapeFits, sameRecord}
 
 -- ---- the shape of a record
 module _ (s : List ℕ) (i : ℕ) where

@@ -3,3 +3,4 @@ pub mod FreshLaws
 pub mod GoodRecord
 pub mod Limits
 pub mod ListedTerms
+pub mod ReadingRows

@@ -18,7 +18,7 @@ use Rattle.submission.specs.declared.Reading.{Reading}
 use Rattle.submission.specs.declared.Reading.the-variants.{Good, Refused}
 use Rattle.submission.specs.{Way.Way, Way.another-step, Way.at-start, Way.inverse-key, Way.wayOf, Way.Range, Way.step-number, Way.term-number, Way.zero-only, Way.Operand, Way.verifying-result, Way.companion-result, Way.lowest-conclusion, Way.lowest-companion, Way.Row, Record.start, Record.count, Record.terms, Record.kindAt, Record.xAt, Record.yAt, Record.guess, Record.verifying, Record.wayAt, Record.companion}
 use Rattle.term.specs.Code.{relationIs}
-use Rattle.base.specs.Answer.{Check, passes, fails}
+use Rattle.base.specs.Computed.{Check, passes, fails}
 
 -- r is where body i starts
 pub record Starts (s : List ℕ) (i r : ℕ) : Type 0 where

@@ -1,7 +1,63 @@
--- Tests of term numbers; the laws `inverse-iff` and `says-fresh` say what they tell of terms.
-use Rattle.base.specs.{Words.Bool, Words._&&_, Words.not, Words.List, Words.ℕ, Words.eqb, Lists.any}
-use Rattle.term.specs.{Term.Term, Term.inverse, Computed.inverseKinds, Computed.isPart}
-use Rattle.submission.specs.Record.{kindAt, xAt, yAt, entries, entryAt, term}
+-- Checks 1 to 5 and tests of term numbers; what they say is proved: `tells-1-to-5`, `inverse-iff`, `says-fresh`.
+use Rattle.base.specs.{Words.Bool, Words.true, Words.false, Words._&&_, Words._||_, Words.not, Words.cond, Words.List, Words.Option, Words.none, Words.some, Words.ℕ, Words._+_, Words._*_, Words.eqb, Words.ltb, Words.length, Lists.first, Lists.byte, Computed.any, Computed.Check, Computed.failsAt, Computed.failsIf, Computed.andThen}
+use Rattle.term.specs.{Term.second, Term.unary, Term.Shape, Term.atomic, Term.compound, Term.Term, Term.inverse, Number.shapeOf, Computed.takes, Computed.isAtomic, Computed.inverseKinds, Computed.isPart}
+use Rattle.submission.specs.{Record.letter, Record.count, Record.start, Record.least, Record.most, Record.terms, Record.entries, Record.steps, Record.kindAt, Record.xAt, Record.yAt, Record.entryAt, Record.guess, Record.verifying, Record.wayAt, Record.companion, Record.term, Way.Way, Way.wayOf, Way.Range, Way.step-number, Way.term-number, Way.zero-only, Way.row}
+
+-- 1 contents: "under 16 bytes; a letter, start or the length wrong"
+unfoldable pub badContents : List ℕ → Bool
+badContents s =
+    ltb (length s) 16
+    || (any (λ i. not (eqb (byte s (4 * i)) (letter i))) 4
+    || (any (λ i. not (eqb (byte s (4 * i + 2) * 256 + byte s (4 * i + 3)) (start s i))) 4 || not (eqb (length s) (start s 4))))
+
+-- 2 count: "T, K, D, V outside its limits", place "first such entry, 0 to 3"
+abbrev pub badCount : List ℕ → ℕ → Bool
+badCount s i = ltb (count s i) (least i) || ltb (most i) (count s i)
+
+-- "In 4 to 6, x and y number earlier terms", and y is of a kind that the form takes; where there is no second operand, y is 0
+abbrev pub shapeFits : List ℕ → ℕ → Option Shape → Bool
+shapeFits s i none = false
+shapeFits s i (some (atomic κ)) = true
+shapeFits s i (some (compound f)) =
+    ltb (xAt s i) i
+    && cond (unary (second f)) (eqb (yAt s i) 0) (ltb (yAt s i) i && takes (second f) (shapeOf (kindAt s (yAt s i))))
+
+-- "No two records are equal, so equal terms have equal numbers."
+abbrev pub sameRecord : List ℕ → ℕ → ℕ → Bool
+sameRecord s i j = eqb (kindAt s j) (kindAt s i) && (eqb (xAt s j) (xAt s i) && eqb (yAt s j) (yAt s i))
+
+-- 3 term: "first record that is bad or equals an earlier one"
+unfoldable pub badTerm : List ℕ → ℕ → Bool
+badTerm s i = not (shapeFits s i (shapeOf (kindAt s i))) || any (sameRecord s i) i
+
+-- 4 knowledge: "entry not below T, or equal to an earlier one"
+unfoldable pub badKnowledge : List ℕ → ℕ → Bool
+badKnowledge s i = not (ltb (entryAt s i) (terms s)) || any (λ j. eqb (entryAt s j) (entryAt s i)) i
+
+abbrev pub inRange : List ℕ → Range → ℕ → Bool
+inRange s step-number n = ltb n (steps s)
+inRange s term-number n = ltb n (terms s)
+inRange s zero-only n = eqb n 0
+
+-- the step and the companion are in range for the way, and the way is one
+abbrev pub claimFits : List ℕ → Option Way → Bool
+claimFits s none = false
+claimFits s (some w) = inRange s (row w .step) (verifying s) && inRange s (row w .companion) (companion s)
+
+-- 5 claim: "guess not below T or no atom; step or companion out of range ..; way"
+unfoldable pub goodClaim : List ℕ → Bool
+goodClaim s =
+    ltb (guess s) (terms s) && (isAtomic (shapeOf (kindAt s (guess s))) && claimFits s (wayOf (wayAt s)))
+
+-- "Deducible makes checks 1 to 4 .. run makes 1 to 5"
+unfoldable pub checks1to4 : List ℕ → Check
+checks1to4 s =
+    andThen (failsIf (badContents s) 1 0)
+    (andThen (failsAt 2 (first (badCount s) 4))
+    (andThen (failsAt 3 (first (badTerm s) (terms s))) (failsAt 4 (first (badKnowledge s) (entries s)))))
+
+unfoldable pub checks1to5 : List ℕ → Check
+checks1to5 s = andThen (checks1to4 s) (failsIf (not (goodClaim s)) 5 0)
 
 -- the terms of two numbers are keys and each other's inverse
 unfoldable pub areInverse : List ℕ → ℕ → ℕ → Bool

@@ -1,5 +1,5 @@
--- A submission's contents and records, checks 1 and 2: document 01, 'The submission'. "Records count from 0."
-use Rattle.base.specs.{Words.Bool, Words._||_, Words.not, Words.List, Words.[], Words._∷_, Words.ℕ, Words.zero, Words.suc, Words._+_, Words._*_, Words.eqb, Words.ltb, Words.length, Words.getD, Lists.any, Lists.byte, Words._≡_, Words.cond, Words.Option, Words.none, Words.some, Words._<_}
+-- A submission's contents and records: document 01, 'The submission'. "Records count from 0."
+use Rattle.base.specs.{Words._≡_, Words.cond, Words.List, Words.[], Words._∷_, Words.Option, Words.none, Words.some, Words.ℕ, Words.zero, Words.suc, Words._+_, Words._*_, Words._<_, Words.getD, Lists.byte}
 use Rattle.term.specs.{Number.hasOne, Term.plain, Term.unary, Term.make, Term.Shape, Term.atomic, Term.compound, Term.Term, Number.shapeOf, Table.Rec, Table.leaf, Table.branch, Table.decoded, Table.void, Term.second}
 
 -- "four entries of 4 bytes: a letter, a one-byte count, a two-byte start", 0 to 3; "T terms, K knowledge, D derivation, V claim"
@@ -18,23 +18,12 @@ unfoldable pub start : List ℕ → ℕ → ℕ
 start s zero = 16
 start s (suc i) = start s i + width i * count s i
 
--- 1 contents: "under 16 bytes; a letter, start or the length wrong"
-unfoldable pub badContents : List ℕ → Bool
-badContents s =
-    ltb (length s) 16
-    || (any (λ i. not (eqb (byte s (4 * i)) (letter i))) 4
-    || (any (λ i. not (eqb (byte s (4 * i + 2) * 256 + byte s (4 * i + 3)) (start s i))) 4 || not (eqb (length s) (start s 4))))
-
 -- "Counts: T 1 to 250, K 0 to 64, D 0 to 128, V exactly 1."
 abbrev pub least : ℕ → ℕ
 least i = getD (1 ∷ 0 ∷ 0 ∷ 1 ∷ []) i 0
 
 abbrev pub most : ℕ → ℕ
 most i = getD (250 ∷ 64 ∷ 128 ∷ 1 ∷ []) i 0
-
--- 2 count: "T, K, D, V outside its limits", place "first such entry, 0 to 3"
-abbrev pub badCount : List ℕ → ℕ → Bool
-badCount s i = ltb (count s i) (least i) || ltb (most i) (count s i)
 
 -- "Call the counts of K and D also K and N": the counts of terms, of knowledge entries and of steps
 abbrev pub terms : List ℕ → ℕ

@@ -1,7 +1,7 @@
 -- The ways of a claim, in one table. What condition 4 asks in each way is in the crate `conditions`.
-use Rattle.base.specs.Words.{Bool, true, false, _&&_, cond, List, Option, none, some, ℕ, eqb, ltb}
+use Rattle.base.specs.Words.{_≡_, Bool, true, false, cond, List, Option, none, some, ℕ, _<_, eqb}
 use Rattle.term.specs.Term.{Relation, equal, inverses}
-use Rattle.submission.specs.Record.{terms, steps, verifying, companion}
+use Rattle.submission.specs.Record.{terms, steps}
 
 -- way a: another step concludes the same term; way b: it is known at the start; way c: its inverse key is known
 pub data Way : Type 0 where
@@ -39,12 +39,7 @@ row at-start =
 row inverse-key =
     record { step = step-number; companion = term-number; companionKept = false; relation = inverses; tested = verifying-result; against = lowest-companion }
 
-abbrev pub inRange : List ℕ → Range → ℕ → Bool
-inRange s step-number n = ltb n (steps s)
-inRange s term-number n = ltb n (terms s)
-inRange s zero-only n = eqb n 0
-
--- the step and the companion are in range for the way, and the way is one
-abbrev pub claimFits : List ℕ → Option Way → Bool
-claimFits s none = false
-claimFits s (some w) = inRange s (row w .step) (verifying s) && inRange s (row w .companion) (companion s)
+abbrev pub InRange : List ℕ → Range → ℕ → Type 0
+InRange s step-number n = n < steps s
+InRange s term-number n = n < terms s
+InRange s zero-only n = n ≡ 0

@@ -11,15 +11,14 @@ ghost use mathlib.Core.Path.{_≡_};
 ghost use mathlib.Core.Bool.{_&&_, not};
 ghost use Prim.Native.Nat.{_+_, _*_, _<_};
 ghost use lib.Dec.{eqb};
-ghost use Rattle.base.specs.Lists.{any, first, byte as byteAt};
+ghost use Rattle.base.specs.Lists.{first, byte as byteAt};
 ghost use Rattle.term.specs.Number.{shapeOf};
-ghost use Rattle.submission.specs.Record.{letter, start, badContents, badCount, terms as termCount, entries as entryCount, steps as stepCount, kindAt, xAt, yAt, entryAt, wayAt};
-ghost use Rattle.submission.specs.Computed.{areInverse};
-ghost use Rattle.submission.specs.Way.{wayOf, row, inRange, claimFits};
-ghost use Rattle.submission.specs.Check.{shapeFits, sameRecord, badTerm, badKnowledge, goodClaim, checks1to4, checks1to5};
+ghost use Rattle.submission.specs.Record.{letter, start, terms as termCount, entries as entryCount, steps as stepCount, kindAt, xAt, yAt, entryAt, wayAt};
+ghost use Rattle.submission.specs.Computed.{areInverse, badContents, badCount, inRange, claimFits, shapeFits, sameRecord, badTerm, badKnowledge, goodClaim, checks1to4, checks1to5};
+ghost use Rattle.submission.specs.Way.{wayOf, row};
+ghost use Rattle.base.specs.Computed.{any, failsAt, failsIf};
 ghost use Rattle.base.specs.Code.{checkOf};
 ghost use Rattle.submission.specs.Code.{Starts, IsTerm, wayIs, letterIs, rangeIs, rowIs, IsClaimBytes, IsClaim, readingCheck, ReadingIs, Chained};
-ghost use Rattle.base.specs.Answer.{failsAt, failsIf};
 
 pub fn terms(s: &[u8]) -> u8
     ensures { λ r. ⌜ r ≡ termCount (now (s .entry)) ⌝ }

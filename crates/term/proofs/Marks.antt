@@ -7,11 +7,12 @@ use Prim.Native.Nat.{ℕ, zero, suc, _+_, _≤_, _<_}
 use native.Mathlib.Omega.{arith}
 use lib.ListN.{length, getD}
 use lib.Seq.{ext-getD}
-use Rattle.base.specs.Lists.{any, listed}
+use Rattle.base.specs.Lists.{listed}
 use Rattle.base.proofs.Order.{lt-or-ge}
 use Rattle.base.proofs.BoolLaws.{or-left, or-right, or-neither}
 use Rattle.base.proofs.Says.{Says, true-or-false, says-and, says-any, denies}
 use Rattle.base.proofs.Grow.{length-listed, listed-at}
+use Rattle.base.specs.Computed.{any}
 
 not-true : (b : Bool) → Says (not b) (b ≡ false)
 not-true true = (λ e. absurd (false≢true e), λ e. absurd (true≢false e))

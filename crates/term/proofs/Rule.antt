@@ -14,9 +14,9 @@ use Rattle.base.proofs.Order.{lt-or-ge}
 use Rattle.base.proofs.Says.{Says}
 use Rattle.term.specs.{Term.symmetric, Term.asymmetric, Term.left, Term.right, Term.pair, Term.encryption, Term.Head, Term.make, Term.part, Term.decrypt, Computed.head?, Term.single}
 use Rattle.base.specs.Words.{ite}
-use Rattle.term.specs.Number.{table, rules, isRule, heads, wordOf, headOf, hasOne}
+use Rattle.term.specs.Number.{table, rules, heads, wordOf, headOf, hasOne}
 use Rattle.term.specs.Code.{ruleOf}
-use Rattle.term.specs.Computed.{isHead, takesApart, ruleTakesApart}
+use Rattle.term.specs.Computed.{isHead, takesApart, ruleTakesApart, isRule}
 use Rattle.term.specs.Step.{takenBy, TakesApart}
 use Rattle.term.proofs.Reduce.{says-test}
 use Rattle.term.proofs.Numbered.{same-below, is, Arms, choice, allBelow, choice-is}

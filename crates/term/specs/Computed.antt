@@ -1,9 +1,8 @@
 -- Decisions and tests of what the other files define; their types, or the laws `says-part`, `says-takes-apart` and `says-kinds`, say what
 -- they decide.
-use Rattle.base.specs.Words.{Dec·and, Bool, false, _||_, _&&_, cond, Option, none, some, List, [], _∷_, ℕ, suc, eqb, ite}
+use Rattle.base.specs.Words.{Dec·and, Bool, false, _||_, _&&_, cond, Option, none, some, List, [], _∷_, ℕ, suc, eqb, ltb, ite, true}
 use native.Mathlib.Decide.{ℕ-discrete}
-use Rattle.term.specs.{Term.Kind-discrete, Term.Cipher-discrete, Term.Side-discrete, Term.Form-discrete, Term.Head-discrete, Term.Term-discrete, Term.Shape-discrete, Term.plain, Term.public, Term.private, Term.Cipher, Term.symmetric, Term.asymmetric, Term.Head, Term.Term, Term.atom, Term.node, Term.Shape, Term.atomic, Term.isKey, Term.inverse, Term.Match, Number.kinds, Step.takenBy, Number.isRule, Number.headOf}
-use mathlib.Core.Bool.{true}
+use Rattle.term.specs.{Term.Kind-discrete, Term.Cipher-discrete, Term.Side-discrete, Term.Form-discrete, Term.Head-discrete, Term.Term-discrete, Term.Shape-discrete, Term.plain, Term.public, Term.private, Term.Cipher, Term.symmetric, Term.asymmetric, Term.Head, Term.Term, Term.atom, Term.node, Term.Shape, Term.atomic, Term.isKey, Term.inverse, Term.Match, Number.kinds, Step.takenBy, Number.rules, Number.headOf, Term.Second, Term.absent, Term.anything, Term.keyFor, Term.compound, Term.isKeyFor}
 
 abbrev pub head? : Discrete Head
 head? = Head-discrete (Form-discrete Cipher-discrete) Side-discrete Cipher-discrete
@@ -13,6 +12,18 @@ term? = Term-discrete Kind-discrete ℕ-discrete head?
 
 abbrev pub shape? : Discrete Shape
 shape? = Shape-discrete Kind-discrete (Form-discrete Cipher-discrete)
+
+-- a record of this shape lists an atom
+abbrev pub isAtomic : Option Shape → Bool
+isAtomic none = false
+isAtomic (some (atomic κ)) = true
+isAtomic (some (compound f)) = false
+
+-- a term of this shape can be that operand
+abbrev pub takes : Second → Option Shape → Bool
+takes absent z = false
+takes anything z = true
+takes (keyFor c) z = isKeyFor c z
 
 -- the place of an entry in a list
 abbrev pub place : {A : Type 0} → Discrete A → List A → A → ℕ
@@ -50,6 +61,10 @@ isHead b (some h) = ite (head? h b) true false
 
 abbrev pub takesApart : Head → Head → Bool
 takesApart h b = isHead b (takenBy h)
+
+-- a number is that of a rule
+abbrev pub isRule : ℕ → Bool
+isRule n = ltb n rules
 
 -- the rule t takes apart what the rule b builds; a number that is no rule does nothing
 unfoldable pub ruleTakesApart : ℕ → ℕ → Bool

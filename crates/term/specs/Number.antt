@@ -1,5 +1,5 @@
 -- The numbers of kinds, and the numbers and words of rules: document 01, 'Terms' and the table of 'Dolev-Yao steps'. No other place lists them.
-use Rattle.base.specs.Words.{Bool, List, [], _∷_, map, getElem?, Option, none, ℕ, zero, suc, ltb, length, getD}
+use Rattle.base.specs.Words.{Bool, List, [], _∷_, map, getElem?, Option, none, ℕ, zero, suc, length, getD}
 use Rattle.term.specs.Term.{plain, public, private, symmetric, asymmetric, left, right, pair, encryption, Shape, atomic, compound, Head, make, part, decrypt, single}
 
 -- "Kinds 1 plain atom, 2 public key, 3 private key .. Kind 4 pair(x, y); 5 enc(x, y) ..; 6 enca(x, y)"
@@ -32,9 +32,6 @@ table =
 
 abbrev pub rules : ℕ
 rules = length table
-
-abbrev pub isRule : ℕ → Bool
-isRule n = ltb n rules
 
 abbrev pub heads : List Head
 heads = map (λ r. r .0) table

@@ -1,4 +1,4 @@
--- Terms, keys and parts: document 01, 'The submission' and 'The register program'. The numbers of kinds and rules are in `Kind` and `Rule`.
+-- Terms, keys and parts: document 01, 'The submission' and 'The register program'. The numbers of kinds and rules are in `Number`.
 use Rattle.base.specs.Words.{_≡_, _⊎_, Bool, true, false, Option, none, some, ℕ, ite, Holds}
 
 -- "plain atom", "public key", "private key"
@@ -96,23 +96,12 @@ shape (node (make f) a b) = some (compound f)
 shape (node (part s) a b) = none
 shape (node (decrypt c) a b) = none
 
-abbrev pub isAtomic : Option Shape → Bool
-isAtomic none = false
-isAtomic (some (atomic κ)) = true
-isAtomic (some (compound f)) = false
-
 -- "y a plain atom", "y a key of kind 2 or 3". "Any plain atom may be a symmetric key (house rule)."
 abbrev pub isKeyFor : Cipher → Option Shape → Bool
 isKeyFor c none = false
 isKeyFor c (some (compound f)) = false
 isKeyFor symmetric (some (atomic κ)) = ite (Kind-discrete κ plain) true false
 isKeyFor asymmetric (some (atomic κ)) = keyKind κ
-
--- a term of this shape can be that operand
-abbrev pub takes : Second → Option Shape → Bool
-takes absent z = false
-takes anything z = true
-takes (keyFor c) z = isKeyFor c z
 
 -- a and b are such operands of a listed term; one that stands alone stands twice
 abbrev pub Operands : Second → Term → Term → Type 0

@@ -2,9 +2,9 @@
 use crate::rules;
 ghost use mathlib.Core.Path.{_≡_};
 ghost use mathlib.Core.Bool.{cond};
-ghost use Rattle.term.specs.Term.{asymmetric, isAtomic, isKeyFor, takes as takesShape};
+ghost use Rattle.term.specs.Term.{asymmetric, isKeyFor};
 ghost use Rattle.term.specs.Number.{shapeOf};
-ghost use Rattle.term.specs.Computed.{inverseKinds};
+ghost use Rattle.term.specs.Computed.{inverseKinds, isAtomic, takes as takesShape};
 ghost use Rattle.term.specs.Code.{isUnary, builderOf, secondOf};
 
 pub const PLAIN: u8 = 1;

@@ -1,7 +1,7 @@
 // The rules by their numbers, and what the table says of them.
 ghost use mathlib.Core.Path.{_≡_};
-ghost use Rattle.term.specs.Number.{isRule, hasOne};
-ghost use Rattle.term.specs.Computed.{ruleTakesApart};
+ghost use Rattle.term.specs.Number.{hasOne};
+ghost use Rattle.term.specs.Computed.{ruleTakesApart, isRule};
 
 pub const PAIR: u8 = 0;
 

@@ -2,73 +2,87 @@
 use mathlib.Core.Path.{_≡_, sym, ap, _∙_, subst}
 use mathlib.Core.Logic.{_↔_, Iff·trans}
 use mathlib.Core.List.{List}
-use Prim.Native.Nat.{ℕ, _≤_, _<_}
+use Prim.Native.Nat.{ℕ, _≤_}
 use lib.ListN.{length, take}
 use Rattle.base.specs.declared.Answer.{Answer as AnswerGiven}
 use Rattle.base.specs.declared.Answer.the-variants as given
-use Rattle.base.specs.Answer.{done, refused, passes, pageAfter}
+use Rattle.base.specs.Answer.{Answer, done, refused, pageAfter, Clear, Refuses}
 use Rattle.base.specs.Lists.{Bytes}
 use Rattle.base.specs.Calls.{answerOf}
 use Rattle.term.specs.Step.{Deducible}
-use Rattle.submission.specs.Record.{terms, steps, guess, nameAt, term, InKnowledge}
-use Rattle.submission.specs.Check.{checks1to4}
-use Rattle.deduction.specs.Deduce.{deducibleAnswer}
-use Rattle.deduction.specs.Calls.{Deduced}
-use Rattle.deduction.proofs.theory.DeducibleAnswer.{yes-exact, no-exact}
+use Rattle.submission.specs.Record.{steps, guess, nameAt, term, InKnowledge}
+use Rattle.deduction.specs.{Calls.Deduced, Deduce.deducibleRows}
+use Rattle.deduction.proofs.theory.DeducibleAnswer.{deducible-exact, yes-exact, no-exact}
 use Rattle.program.specs.Program.{bytesOf, programLength}
-use Rattle.machine.specs.Run.{runAnswer}
-use Rattle.machine.specs.Calls.{Ran}
+use Rattle.machine.specs.{Calls.Ran, Run.runRows, Run.signal, Computed.runAnswer}
+use Rattle.machine.proofs.theory.RunAnswer.{run-exact}
 use Rattle.conditions.specs.declared.Verdict.{Verdict}
 use Rattle.conditions.specs.declared.Verdict.the-variants.{Accepted, Refused}
-use Rattle.conditions.specs.Calls.{verdictAnswer, Checked}
-use Rattle.conditions.specs.Check.{checkAnswer, program}
-use Rattle.conditions.specs.Condition.{WellFormed, FiveConditions}
-use Rattle.conditions.specs.Demand.{WrongGuess, KeptPromise}
-use Rattle.conditions.proofs.theory.Acceptance.{accepted-iff}
-use Rattle.conditions.proofs.theory.Promise.{demand-3}
-use Rattle.conditions.proofs.theory.Refusal.{check-refusals}
+use Rattle.conditions.specs.{Calls.verdictAnswer, Calls.Checked, Check.program, Condition.WellFormed, Condition.FiveConditions, Condition.checkRows, Demand.WrongGuess, Demand.KeptPromise}
+use Rattle.conditions.proofs.theory.{Acceptance.accepted-iff, Promise.demand-3, Refusal.check-exact}
 
 -- a verdict and an answer tell what they stand for
-same-verdict : (v : Verdict) (n : ℕ) → verdictAnswer v ≡ done n → v ≡ Accepted n
-same-verdict (Accepted m) n e = cc
-same-verdict (Refused number place) n e = cc
+same-verdict : (v u : Verdict) → verdictAnswer v ≡ verdictAnswer u → v ≡ u
+same-verdict (Accepted m) (Accepted n) e = cc
+same-verdict (Accepted m) (Refused n p) e = cc
+same-verdict (Refused m q) (Accepted n) e = cc
+same-verdict (Refused m q) (Refused n p) e = cc
 
-same-answer : (r : AnswerGiven) (n : ℕ) → answerOf r ≡ done n → r ≡ given.Done n
-same-answer (given.Done m) n e = cc
-same-answer (given.Refused number place) n e = cc
+same-answer : (r u : AnswerGiven) → answerOf r ≡ answerOf u → r ≡ u
+same-answer (given.Done m) (given.Done n) e = cc
+same-answer (given.Done m) (given.Refused n p) e = cc
+same-answer (given.Refused m q) (given.Done n) e = cc
+same-answer (given.Refused m q) (given.Refused n p) e = cc
+
+-- so what was returned is u exactly when the answer is what u stands for
+returned-verdict : (v u : Verdict) {a : Answer} → verdictAnswer v ≡ a → (v ≡ u) ↔ (a ≡ verdictAnswer u)
+returned-verdict v u c = (λ e. sym c ∙ ap verdictAnswer e, λ e. same-verdict v u (c ∙ e))
+
+returned : (r u : AnswerGiven) {a : Answer} → answerOf r ≡ a → (r ≡ u) ↔ (a ≡ answerOf u)
+returned r u c = (λ e. sym c ∙ ap answerOf e, λ e. same-answer r u (c ∙ e))
 
 -- ---- a call of `check` on s and page that returned v and left page′
 module _ (s page page′ : List ℕ) (v : Verdict) (bytes : Bytes s) (call : Checked s page v page′) where
+  -- Demand 1: it refuses with n at p exactly when row n holds at p and no row holds that the order puts before it;
+  pub call-refuses : (n p : ℕ) → (v ≡ Refused n p) ↔ Refuses (checkRows s (length page)) n p
+  call-refuses n p = Iff·trans (returned-verdict v (Refused n p) (call .answer)) (check-exact s bytes (length page) (refused n p))
+
+  -- and then the page is the page before
+  pub call-leaves : (n p : ℕ) → v ≡ Refused n p → page′ ≡ page
+  call-leaves n p e = call .bytes ∙ ap (λ x. pageAfter x (bytesOf (program s)) page) (returned-verdict v (Refused n p) (call .answer) .0 e)
+
   -- Demand 2: it accepts exactly the well-formed submissions that meet the five conditions and have page enough
   pub call-accepts : (n : ℕ) → (v ≡ Accepted n) ↔ ((n ≡ steps s) × WellFormed s × FiveConditions s × (programLength (steps s) ≤ length page))
-  call-accepts n = Iff·trans (λ e. sym (call .answer) ∙ ap verdictAnswer e, λ e. same-verdict v n (call .answer ∙ e)) (accepted-iff s bytes (length page) n)
+  call-accepts n = Iff·trans (returned-verdict v (Accepted n) (call .answer)) (accepted-iff s bytes (length page) n)
 
   -- Demand 3: after an acceptance the page holds the program, which tells the right guess from the wrong ones
   pub call-keeps : (n : ℕ) → v ≡ Accepted n → KeptPromise s page n page′
   call-keeps n e =
-      subst (KeptPromise s page n) (sym (call .bytes)) (demand-3 s page bytes n (sym (call .answer) ∙ ap verdictAnswer e))
-
-  -- Demand 1: a refusal carries a number of document 01, and leaves the page as it was
-  pub call-refuses : (number place : ℕ) → v ≡ Refused number place → ((1 ≤ number) × (number ≤ 11)) × (page′ ≡ page)
-  call-refuses number place e =
-      let a : checkAnswer s (length page) ≡ refused number place = sym (call .answer) ∙ ap verdictAnswer e in
-      (check-refusals s (length page) number place a, call .bytes ∙ ap (λ x. pageAfter x (bytesOf (program s)) page) a)
+      subst (KeptPromise s page n) (sym (call .bytes)) (demand-3 s page bytes n (returned-verdict v (Accepted n) (call .answer) .0 e))
 
   -- and a call of `run` with what an acceptance left, the same submission and a name, that returned r
   module _ (n name : ℕ) (accepted : v ≡ Accepted n) (r : AnswerGiven) (ran : Ran s name (take (programLength n) page′) r) where
     pub run-right : name ≡ nameAt s (guess s) → r ≡ given.Done 1
-    run-right e = same-answer r 1 (ran ∙ ap (λ k. runAnswer s k (take (programLength n) page′)) e ∙ call-keeps n accepted .right)
+    run-right e = returned r (given.Done 1) ran .1 (ap (λ k. runAnswer s k (take (programLength n) page′)) e ∙ call-keeps n accepted .right)
 
     pub run-wrong : WrongGuess s name → r ≡ given.Done 0
-    run-wrong w = same-answer r 0 (ran ∙ call-keeps n accepted .wrong name w)
+    run-wrong w = returned r (given.Done 0) ran .1 (call-keeps n accepted .wrong name w)
+
+-- ---- a call of `run` on s, a name and any program P that returned r
+module _ (s P : List ℕ) (name : ℕ) (r : AnswerGiven) (call : Ran s name P r) where
+  pub run-refuses : (n p : ℕ) → (r ≡ given.Refused n p) ↔ Refuses (runRows s P) n p
+  run-refuses n p = Iff·trans (returned r (given.Refused n p) call) (run-exact s P name (refused n p))
+
+  pub run-signals : (n : ℕ) → (r ≡ given.Done n) ↔ (Clear (runRows s P) × (n ≡ signal s name P))
+  run-signals n = Iff·trans (returned r (given.Done n) call) (run-exact s P name (done n))
 
 -- ---- a call of `deducible` on s and the number t that returned r
 module _ (s : List ℕ) (t : ℕ) (r : AnswerGiven) (bytes : Bytes s) (call : Deduced s t r) where
-  told : (n : ℕ) → (r ≡ given.Done n) ↔ (deducibleAnswer s t ≡ done n)
-  told n = (λ e. sym call ∙ ap answerOf e, λ e. same-answer r n (call ∙ e))
+  pub deducible-refuses : (n p : ℕ) → (r ≡ given.Refused n p) ↔ Refuses (deducibleRows s t) n p
+  deducible-refuses n p = Iff·trans (returned r (given.Refused n p) call) (deducible-exact s bytes t (refused n p))
 
-  pub call-yes : (r ≡ given.Done 1) ↔ ((checks1to4 s ≡ passes) × (t < terms s) × Deducible (InKnowledge s) (term s t))
-  call-yes = Iff·trans (told 1) (yes-exact s bytes t)
+  pub call-yes : (r ≡ given.Done 1) ↔ (Clear (deducibleRows s t) × Deducible (InKnowledge s) (term s t))
+  call-yes = Iff·trans (returned r (given.Done 1) call) (yes-exact s bytes t)
 
-  pub call-no : (r ≡ given.Done 0) ↔ ((checks1to4 s ≡ passes) × (t < terms s) × (Deducible (InKnowledge s) (term s t) → ⊥))
-  call-no = Iff·trans (told 0) (no-exact s bytes t)
+  pub call-no : (r ≡ given.Done 0) ↔ (Clear (deducibleRows s t) × (Deducible (InKnowledge s) (term s t) → ⊥))
+  call-no = Iff·trans (returned r (given.Done 0) call) (no-exact s bytes t)

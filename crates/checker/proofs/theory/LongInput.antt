@@ -11,14 +11,15 @@ use native.Mathlib.Decide.{decLt}
 use lib.ListN.{length, take, length-take, List·getD-eq-default}
 use lib.Seq.{getD-take}
 use borrow.Author.Tests.{ne-eqb}
-use Rattle.base.specs.Lists.{any, byte, Bytes}
+use Rattle.base.specs.Lists.{byte, Bytes}
 use Rattle.base.proofs.BoolLaws.{or-right}
 use Rattle.base.specs.Answer.{refused}
-use Rattle.submission.specs.Record.{letter, start, badContents}
-use Rattle.submission.specs.Check.{checks1to4, checks1to5}
+use Rattle.submission.specs.Record.{letter, start}
+use Rattle.base.specs.Computed.{any}
 use Rattle.text.specs.Text.{answerText, refusedText}
-use Rattle.conditions.specs.Check.{checks1to10, checkAnswer}
+use Rattle.submission.specs.Computed.{badContents, checks1to4, checks1to5}
 use Rattle.checker.specs.Calls.{verdictText}
+use Rattle.conditions.specs.Computed.{checks1to10, checkAnswer}
 
 -- the bodies end at byte 3,076 at the latest
 end-small : (s : List ℕ) → Bytes s → start s 4 ≤ 3076

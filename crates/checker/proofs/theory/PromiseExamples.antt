@@ -9,7 +9,7 @@ use native.Mathlib.Omega.{arith}
 use lib.Dec.{eqb, ltb, lit<, lit≤}
 use lib.ListN.{length, take}
 use Rattle.base.proofs.Says.{says-eqb, says-ltb, says-and, says-not, says-true}
-use Rattle.base.specs.Lists.{first, firstFrom, any, grow, Bytes}
+use Rattle.base.specs.Lists.{first, firstFrom, grow, Bytes}
 use Rattle.term.specs.Computed.{isPart}
 use Rattle.term.specs.Table.{decoded}
 use Rattle.base.specs.Answer.{done, pageAfter}
@@ -18,12 +18,15 @@ use Rattle.term.specs.Number.{shapeOf}
 use Rattle.program.specs.Program.{programLength, bytesOf}
 use Rattle.submission.specs.Computed.{isKnownPart, isFresh}
 use Rattle.submission.proofs.theory.FreshLaws.{says-fresh}
-use Rattle.machine.specs.Run.{guessed, runAnswer}
+use Rattle.machine.specs.Run.{guessed}
 use Rattle.conditions.specs.Demand.{WrongGuess, KeptPromise}
 use Rattle.checker.proofs.theory.Examples.{Example, m1, m3, m8, got, want, example-right}
 use Rattle.conditions.proofs.theory.Acceptance.{accepted-iff}
 use Rattle.conditions.proofs.theory.Promise.{demand-3}
-use Rattle.conditions.specs.Check.{checkAnswer, program}
+use Rattle.conditions.specs.Check.{program}
+use Rattle.base.specs.Computed.{any}
+use Rattle.machine.specs.Computed.{runAnswer}
+use Rattle.conditions.specs.Computed.{checkAnswer}
 
 -- ---- the hypotheses as tests
 areBytes : List ℕ → Bool

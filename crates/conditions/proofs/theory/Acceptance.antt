@@ -6,21 +6,22 @@ use mathlib.Core.List.{List}
 use Prim.Native.Nat.{ℕ, _<_, _≤_}
 use borrow.Author.Tests.{ltb-false, le-ltb}
 use Rattle.base.proofs.Says.{not-not-false, none-fails}
-use Rattle.base.specs.Answer.{done, passes, failsIf, failsAt}
+use Rattle.base.specs.Answer.{done}
 use Rattle.base.specs.Lists.{Bytes, first}
 use Rattle.submission.specs.Record.{steps, wayAt, verifying}
 use Rattle.submission.specs.Way.{wayOf}
-use Rattle.submission.specs.Check.{checks1to5}
+use Rattle.base.specs.Computed.{passes, failsIf, failsAt}
 use Rattle.base.proofs.AnswerLaws.{if-passes, at-passes, then-passes, answered-done}
-use Rattle.submission.proofs.theory.ListedTerms.{Claimed, claimed}
-use Rattle.derivation.specs.{Computed.unfounded, Step.checkSteps}
+use Rattle.base.proofs.RefusalLaws.{passes-iff}
+use Rattle.submission.proofs.theory.{ListedTerms.Claimed, ListedTerms.claimed, ReadingRows.tells-1-to-5, ReadingRows.claimed-clear}
+use Rattle.derivation.specs.{Computed.unfounded, Computed.checkSteps}
 use Rattle.derivation.proofs.theory.StepMeaning.{fits-iff, steps-pass}
 use Rattle.program.specs.Program.{programLength}
-use Rattle.conditions.specs.Computed.{reachable, hasSecondWay, undone}
-use Rattle.conditions.specs.Check.{checks1to10, checkAnswer, checks8to10}
+use Rattle.conditions.specs.Computed.{reachable, hasSecondWay, undone, checks1to10, checkAnswer, checks8to10}
+use Rattle.submission.specs.Computed.{checks1to5}
 use Rattle.conditions.specs.Condition.{WellFormed, FiveConditions}
 use Rattle.conditions.specs.Demand.{Demand2}
-use Rattle.conditions.proofs.theory.ConditionsMeant.{founded-terms, reachable-iff, second-way-iff, undone-iff}
+use Rattle.conditions.proofs.theory.ConditionsMeant.{founded-at, reachable-iff, second-way-iff, undone-iff}
 use lib.Dec.{ltb}
 
 -- what the checks after the fifth say of term numbers, where all pass
@@ -57,33 +58,32 @@ all-pass s b room n = (down, up)
         let (f, v) = then-passes (checkSteps s) _ .0 u in
         let each = steps-pass s .0 f in
         let w = pass-8-to-10 s .0 v in
-        (sym m, record { read = r; shaped = λ i l. fits-iff (claimed s b r .read) i .0 (each i l .0) }, record { founded = λ i l. each i l .1; hidden = w .0; secondWay = w .1; kept = w .2 }, page .0 q)
+        (sym m, record { read = tells-1-to-5 s .clear r; shaped = λ i l. fits-iff (claimed s b r .read) i .0 (each i l .0) }, record { founded = λ i l. each i l .1; hidden = w .0; secondWay = w .1; kept = w .2 }, page .0 q)
 
     up : (n ≡ steps s) × WellFormed s × Clear s × (programLength (steps s) ≤ room) → checkAnswer s room ≡ done n
     up (m, g, c, l) =
         let v = pass-8-to-10 s .1 (c .hidden, c .secondWay, c .kept) in
-        let f = steps-pass s .1 (λ i l. (fits-iff (claimed s b (g .read) .read) i .1 (g .shaped i l), c .founded i l)) in
-        let t = then-passes (checks1to5 s) _ .1 (g .read, then-passes (checkSteps s) _ .1 (f, v)) in
+        let f = steps-pass s .1 (λ i l. (fits-iff (claimed-clear s b (g .read) .read) i .1 (g .shaped i l), c .founded i l)) in
+        let t = then-passes (checks1to5 s) _ .1 (passes-iff (tells-1-to-5 s) .1 (g .read), then-passes (checkSteps s) _ .1 (f, v)) in
         answered-done _ (steps s) n .1 (then-passes (checks1to10 s) (failsIf (ltb room (programLength (steps s))) 11 (programLength (steps s))) .1 (t, page .1 l), sym m)
 
 -- the clear submissions are those that meet the conditions
 clear-iff : (s : List ℕ) → Bytes s → WellFormed s → Clear s ↔ FiveConditions s
 clear-iff s b w =
-    let c : Claimed s = claimed s b (w .read) in
+    let c : Claimed s = claimed-clear s b (w .read) in
     let each = w .shaped in (
       λ z. record {
-        founded = λ i l. founded-terms c each i l .0 (z .founded i l);
+        founded = λ i l. founded-at c each i l .0 (z .founded i l);
         present = c .verifying-below;
         hidden = reachable-iff c each .0 (z .hidden);
         secondWay = second-way-iff c each .0 (z .secondWay);
-        kept = undone-iff c each .0 (z .kept) .0;
-        companionKept = undone-iff c each .0 (z .kept) .1;
+        kept = undone-iff c each .0 (z .kept);
       },
       λ f. record {
-        founded = λ i l. founded-terms c each i l .1 (f .founded i l);
+        founded = λ i l. founded-at c each i l .1 (f .founded i l);
         hidden = reachable-iff c each .1 (f .hidden);
         secondWay = second-way-iff c each .1 (f .secondWay);
-        kept = undone-iff c each .1 (f .kept, f .companionKept);
+        kept = undone-iff c each .1 (f .kept);
       },
     )
 

@@ -1,29 +1,28 @@
 -- Each check of the crate, over term numbers, says what its condition says of terms. The numbers of a submission that was read
 -- stand for its terms, one for one.
 use mathlib.Core.Path.{_≡_, refl, sym, ap, subst}
-use mathlib.Core.Logic.{_↔_, _⊎_, inl, inr, ⊎-elim, Iff·trans, Iff·and}
-use mathlib.Core.Bool.{true, false, _&&_, _||_, not}
+use mathlib.Core.Logic.{_↔_, _⊎_, inl, inr, ⊎-elim, Iff·trans}
+use mathlib.Core.Bool.{true, false, _&&_, _||_, not, false≢true}
 use mathlib.Core.List.{List}
 use mathlib.Core.Option.{some}
 use Prim.Native.Nat.{ℕ, _<_, _≤_}
 use native.Mathlib.Omega.{arith}
 use lib.Dec.{eqb}
-use Rattle.base.proofs.Says.{Says, says-eqb, says-and, says-or, says-not, denies, or-false, and-false}
+use Rattle.base.proofs.Says.{Says, says-eqb, says-and, says-or, says-not, denies, and-false}
 use Rattle.term.specs.Term.{Term}
 use Rattle.term.specs.Number.{headOf}
-use Rattle.term.specs.Step.{Deducible, Undoes}
+use Rattle.term.specs.Step.{Deducible}
 use Rattle.term.proofs.Rule.{head-inj, says-takes-apart}
 use Rattle.submission.specs.Record.{terms, steps, ruleAt, pAt, conclusionAt, entryAt, guess, verifying, wayAt, companion, term, InKnowledge, secondAt}
-use Rattle.submission.specs.Way.{Way, another-step, at-start, inverse-key, wayOf, row}
-use Rattle.submission.proofs.theory.ListedTerms.{Claimed, InRange}
+use Rattle.submission.specs.Way.{Way, another-step, at-start, inverse-key, wayOf, row, InRange}
+use Rattle.submission.proofs.theory.ListedTerms.{Claimed}
 use Rattle.derivation.specs.Computed.{isKnown, unfounded}
-use Rattle.derivation.proofs.theory.RegisterTerms.{KnownNumber, says-known}
-use Rattle.derivation.proofs.theory.StepMeaning.{second-listed, founded-iff}
+use Rattle.derivation.proofs.theory.StepMeaning.{second-listed, says-known-term, founded-terms}
 use Rattle.deduction.specs.Computed.{entryMarks, isDeducible}
 use Rattle.deduction.proofs.theory.Exactness.{deducible-iff}
 use Rattle.conditions.specs.Computed.{reachable, isPremise, samePremises, hasSecondWay, undoesStep, companionUndoes, undone}
-use Rattle.derivation.specs.Step.{rule, firstPremise, secondPremise, concluded, Known, StepFits}
-use Rattle.conditions.specs.Condition.{Premise, Differs, SecondWay, UndoesNone}
+use Rattle.derivation.specs.Step.{rule, firstPremise, secondPremise, concluded, Known, StepFits, Premise}
+use Rattle.conditions.specs.Condition.{Differs, SecondWay, UndoneBy, Undone}
 
 -- before step 0 the knowledge and the guess are known
 known-at-start : (s : List ℕ) (t : Term) → Known s 0 t ↔ (InKnowledge s t ⊎ (t ≡ term s (guess s)))
@@ -44,26 +43,12 @@ module _ {s : List ℕ} (c : Claimed s) (sound : (i : ℕ) → i < steps s → S
   says-same : (m n : ℕ) → m < terms s → n < terms s → Says (eqb m n) (term s m ≡ term s n)
   says-same m n a b = Iff·trans (says-eqb m n) (same-iff m n a b)
 
-  -- ---- known, and condition 1
-  pub known-iff : (i n : ℕ) → i ≤ steps s → n < terms s → KnownNumber s i n ↔ Known s i (term s n)
-  known-iff i n l b = (up, down)
-    where
-      up : KnownNumber s i n → Known s i (term s n)
-      up (inl (r, k, e)) = inl (r, k, ap (term s) e)
-      up (inr (inl e)) = inr (inl (ap (term s) e))
-      up (inr (inr (j, k, e))) = inr (inr (j, k, ap (term s) e))
+  -- ---- condition 1
+  known-term : (i n : ℕ) → i ≤ steps s → n < terms s → Says (isKnown s i n) (Known s i (term s n))
+  known-term i n l b = says-known-term c i (λ j k. sound j (omega arith)) n b
 
-      down : Known s i (term s n) → KnownNumber s i n
-      down (inl (r, k, e)) = inl (r, k, same-iff n (entryAt s r) b (read .entry-below r k) .1 e)
-      down (inr (inl e)) = inr (inl (same-iff n (guess s) b (c .guess-below) .1 e))
-      down (inr (inr (j, k, e))) = inr (inr (j, k, same-iff n (conclusionAt s j) b (sound j (omega arith) .conclusion-below) .1 e))
-
-  pub says-known-term : (i n : ℕ) → i ≤ steps s → n < terms s → Says (isKnown s i n) (Known s i (term s n))
-  says-known-term i n l b = Iff·trans (says-known s i n) (known-iff i n l b)
-
-  pub founded-terms : (i : ℕ) → i < steps s → (unfounded s i ≡ false) ↔ (Known s i (firstPremise s i) × Known s i (secondPremise s i))
-  founded-terms i l =
-      Iff·trans (founded-iff s i) (Iff·and (known-iff i (pAt s i) (omega arith) (sound i l .p-below)) (known-iff i (secondAt s i) (omega arith) (second-listed (sound i l))))
+  pub founded-at : (i : ℕ) → i < steps s → (unfounded s i ≡ false) ↔ (Known s i (firstPremise s i) × Known s i (secondPremise s i))
+  founded-at i l = founded-terms c i (λ j k. sound j (omega arith)) (sound i l)
 
   -- ---- condition 3
   hidden-iff : (n : ℕ) → n < terms s → (isDeducible s (entryMarks s) n ≡ false) ↔ (Deducible (InKnowledge s) (term s n) → ⊥)
@@ -78,6 +63,16 @@ module _ {s : List ℕ} (c : Claimed s) (sound : (i : ℕ) → i < steps s → S
       Iff·trans (and-false _ _) (
         ⊎-elim (λ e. (firstPremise s (verifying s), inl refl, p .0 e)) (λ e. (secondPremise s (verifying s), inr refl, q .0 e)),
         λ (x, m, f). ⊎-elim (λ e. inl (p .1 (λ d. f (rw e d)))) (λ e. inr (q .1 (λ d. f (rw e d)))) m,
+      )
+
+  -- row 8
+  pub says-reachable : Says (reachable s) ((x : Term) → Premise s (verifying s) x → Deducible (InKnowledge s) x)
+  unfolding reachable
+  says-reachable =
+      let v = sound (verifying s) (c .verifying-below) in
+      Iff·trans (says-and _ _ (deducible-iff read (pAt s (verifying s)) (v .p-below)) (deducible-iff read (secondAt s (verifying s)) (second-listed v))) (
+        λ (p, q) x. ⊎-elim (λ e. rw e p) (λ e. rw e q),
+        λ f. (f (firstPremise s (verifying s)) (inl refl), f (secondPremise s (verifying s)) (inr refl)),
       )
 
   -- ---- condition 4
@@ -110,18 +105,18 @@ module _ {s : List ℕ} (c : Claimed s) (sound : (i : ℕ) → i < steps s → S
       let e = says-same (conclusionAt s (companion s)) (conclusionAt s (verifying s)) (sound _ l .conclusion-below) (sound _ v .conclusion-below) in
       Iff·trans (says-and _ _ e (says-differs (verifying s) (companion s) v l)) (λ (a, d). (l, a, d), λ (_, a, d). (a, d))
   says-way at-start e =
-      Iff·trans (says-known-term 0 (conclusionAt s (verifying s)) (omega arith) (sound _ (c .verifying-below) .conclusion-below))
+      Iff·trans (known-term 0 (conclusionAt s (verifying s)) (omega arith) (sound _ (c .verifying-below) .conclusion-below))
       (Iff·trans (known-at-start s _) (λ k. (e, k), λ (_, k). k))
   says-way inverse-key l =
       let i = read .inverse-iff (conclusionAt s (verifying s)) (companion s) (sound _ (c .verifying-below) .conclusion-below) l in
-      Iff·trans (says-and _ _ i (says-known-term (steps s) (companion s) (omega arith) l))
+      Iff·trans (says-and _ _ i (known-term (steps s) (companion s) (omega arith) l))
       (λ ((f, e), k). (f, e, k), λ (f, e, k). ((f, e), k))
 
   pub second-way-iff : (hasSecondWay s (wayOf (wayAt s)) ≡ true) ↔ SecondWay s (wayOf (wayAt s))
   second-way-iff = rw (c .has-way) (says-way (c .way) (c .in-range))
 
   -- ---- condition 5
-  says-undoes : (j i : ℕ) → j < steps s → i < steps s → Says (undoesStep s j i) (Undoes (rule s j) (firstPremise s j) (concluded s j) (rule s i) (firstPremise s i) (concluded s i))
+  says-undoes : (j i : ℕ) → j < steps s → i < steps s → Says (undoesStep s j i) (UndoneBy s j i)
   unfolding undoesStep
   says-undoes j i m l =
       let x = sound j m in
@@ -130,24 +125,20 @@ module _ {s : List ℕ} (c : Claimed s) (sound : (i : ℕ) → i < steps s → S
       (says-and _ _ (says-takes-apart _ _ (x .rule-below) (y .rule-below)) (says-same _ _ (x .p-below) (y .conclusion-below)))
       (says-and _ _ (says-takes-apart _ _ (y .rule-below) (x .rule-below)) (says-same _ _ (y .p-below) (x .conclusion-below)))
 
-  undoes-none : (j : ℕ) → j < steps s → ((i : ℕ) → i < steps s → undoesStep s j i ≡ false) ↔ UndoesNone s j
-  undoes-none j m = (λ f i l. denies _ (says-undoes j i m l) .0 (f i l), λ f i l. denies _ (says-undoes j i m l) .1 (f i l))
-
   -- the companion counts in way a only
-  companion-undoes : (w : Way) → InRange s (row w .companion) (companion s) → ((i : ℕ) → i < steps s → companionUndoes s (some w) i ≡ false) ↔ (some w ≡ some another-step → UndoesNone s (companion s))
-  companion-undoes another-step l = (λ f e. undoes-none _ l .0 f, λ f. undoes-none _ l .1 (f refl))
-  companion-undoes at-start l = (λ f e. absurd (let z : _≡_ {A = ℕ} 0 1 = cc in omega arith), λ f i m. refl)
-  companion-undoes inverse-key l = (λ f e. absurd (let z : _≡_ {A = ℕ} 0 1 = cc in omega arith), λ f i m. refl)
+  says-companion : (w : Way) → InRange s (row w .companion) (companion s) → (i : ℕ) → i < steps s →
+      Says (companionUndoes s (some w) i) ((some w ≡ some another-step) × UndoneBy s (companion s) i)
+  says-companion another-step l i m = let u = says-undoes (companion s) i l m in (λ e. (refl, u .0 e), λ (_, x). u .1 x)
+  says-companion at-start l i m = (λ e. absurd (false≢true e), λ (e, x). absurd (let z : _≡_ {A = ℕ} 0 1 = cc in omega arith))
+  says-companion inverse-key l i m = (λ e. absurd (false≢true e), λ (e, x). absurd (let z : _≡_ {A = ℕ} 0 1 = cc in omega arith))
 
-  undone-false : (i : ℕ) → (undone s i ≡ false) ↔ ((undoesStep s (verifying s) i ≡ false) × (companionUndoes s (wayOf (wayAt s)) i ≡ false))
+  -- row 10
+  pub says-undone : (i : ℕ) → i < steps s → Says (undone s i) (Undone s i)
   unfolding undone
-  undone-false i = or-false _ _
+  says-undone i l =
+      let w : Says (companionUndoes s (wayOf (wayAt s)) i) ((wayOf (wayAt s) ≡ some another-step) × UndoneBy s (companion s) i) =
+      rw (c .has-way) (says-companion (c .way) (c .in-range) i l) in
+      says-or _ _ (says-undoes (verifying s) i (c .verifying-below) l) w
 
-  pub undone-iff : ((i : ℕ) → i < steps s → undone s i ≡ false) ↔ (UndoesNone s (verifying s) × (wayOf (wayAt s) ≡ some another-step → UndoesNone s (companion s)))
-  undone-iff =
-      let v = undoes-none (verifying s) (c .verifying-below) in
-      let w : ((i : ℕ) → i < steps s → companionUndoes s (wayOf (wayAt s)) i ≡ false) ↔ (wayOf (wayAt s) ≡ some another-step → UndoesNone s (companion s)) =
-      rw (c .has-way) (companion-undoes (c .way) (c .in-range)) in (
-        λ f. (v .0 (λ i l. undone-false i .0 (f i l) .0), w .0 (λ i l. undone-false i .0 (f i l) .1)),
-        λ (f, g) i l. undone-false i .1 (v .1 f i l, w .1 g i l),
-      )
+  pub undone-iff : ((i : ℕ) → i < steps s → undone s i ≡ false) ↔ ((i : ℕ) → i < steps s → Undone s i → ⊥)
+  undone-iff = (λ f i l. denies _ (says-undone i l) .0 (f i l), λ f i l. denies _ (says-undone i l) .1 (f i l))

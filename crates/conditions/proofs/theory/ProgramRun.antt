@@ -16,7 +16,7 @@ use Rattle.term.specs.Table.{void}
 use Rattle.term.specs.Reduce.{op}
 use Rattle.term.specs.Number.{headOf, hasOne}
 use Rattle.submission.specs.Record.{entries, steps, entryAt, ruleAt, pAt, qAt, guess, term, secondAt}
-use Rattle.derivation.specs.{Register.registerTerm, Register.written, Register.holdsTerm, Computed.every, Computed.isKnown}
+use Rattle.derivation.specs.{Register.registerTerm, Register.written, Computed.holdsTerm, Computed.every, Computed.isKnown}
 use Rattle.derivation.proofs.theory.RegisterTerms.{entry-register, guess-register, result-register}
 use Rattle.program.specs.Program.{bytesOf, programLength, instructionAt, operand}
 use Rattle.machine.specs.Run.{guessed, executed, registers}

@@ -7,15 +7,19 @@ use lib.ListN.{length, take, drop}
 use lib.Seq.{take-at, drop-at}
 use Rattle.base.specs.Answer.{done, pageAfter}
 use Rattle.base.specs.Lists.{Bytes}
+use Rattle.base.proofs.RefusalLaws.{passes-iff}
 use Rattle.submission.specs.Record.{steps, guess, nameAt}
+use Rattle.submission.proofs.theory.ReadingRows.{tells-1-to-5}
 use Rattle.program.specs.Program.{bytesOf, programLength}
-use Rattle.machine.specs.Run.{signal, runAnswer}
-use Rattle.conditions.specs.Check.{checkAnswer, program}
+use Rattle.machine.specs.Run.{signal}
+use Rattle.conditions.specs.Check.{program}
 use Rattle.conditions.specs.Condition.{WellFormed, FiveConditions}
 use Rattle.conditions.specs.Demand.{Demand3, EveryGoodAccepted}
 use Rattle.conditions.proofs.theory.Acceptance.{accepted-iff}
 use Rattle.conditions.proofs.theory.ProgramRun.{program-bytes}
 use Rattle.conditions.proofs.theory.Signal.{program-good, right-signal, wrong-signal}
+use Rattle.machine.specs.Computed.{runAnswer}
+use Rattle.conditions.specs.Computed.{checkAnswer}
 
 -- the page of an acceptance
 page-accepted : (s page : List ℕ) (n : ℕ) → checkAnswer s (length page) ≡ done n →
@@ -25,7 +29,7 @@ page-accepted s page n e = rw e
 -- run takes the program
 run-program : (s : List ℕ) → Bytes s → WellFormed s → FiveConditions s → (name : ℕ) → runAnswer s name (bytesOf (program s)) ≡ done (signal s name (bytesOf (program s)))
 unfolding runAnswer
-run-program s b w c name = rw (w .read, program-good s b w c)
+run-program s b w c name = let r = passes-iff (tells-1-to-5 s) .1 (w .read) in rw (r, program-good s b w c)
 
 -- ---- Demand 3
 -- every acceptance keeps the promise

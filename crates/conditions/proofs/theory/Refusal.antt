@@ -1,80 +1,57 @@
--- Which numbers a refusal carries, of checking, of deducible and of run, and that the page keeps its bytes.
-use mathlib.Core.Path.{_≡_, refl, ap}
-use mathlib.Core.Logic.{_⊎_, inl, inr}
-use mathlib.Core.Bool.{Bool, true, false, not, cond, _||_}
-use mathlib.Core.List.{List}
-use mathlib.Core.Option.{Option, none, some}
-use Prim.Native.Nat.{ℕ, _≤_}
-use native.Mathlib.Omega.{arith}
-use lib.Dec.{ltb}
-use lib.ListN.{length}
-use Rattle.base.specs.Lists.{first}
-use Rattle.base.specs.Answer.{refused, andThen, pageAfter, failsIf, failsAt}
-use Rattle.submission.specs.Record.{terms, entries, steps, verifying, wayAt, badContents, badCount}
-use Rattle.submission.specs.Way.{wayOf}
-use Rattle.submission.specs.Check.{badTerm, badKnowledge, goodClaim, checks1to4, checks1to5}
-use Rattle.base.proofs.AnswerLaws.{FailsWith, passes-with, fails-with, if-with, at-with, then-with, refused-with}
-use Rattle.derivation.specs.{Computed.badStep, Computed.unfounded, Step.stepFault, Step.checkSteps}
-use Rattle.deduction.specs.Deduce.{deducibleAnswer}
-use Rattle.program.specs.Program.{bytesOf, programLength, badProgram}
-use Rattle.machine.specs.Run.{signal, runAnswer}
-use Rattle.conditions.specs.Computed.{reachable, hasSecondWay, undone}
-use Rattle.conditions.specs.Check.{checks1to10, checkAnswer, program}
+-- Demand 1: each call answers as the rows of the table of verdicts and their order say; and a refusal keeps the page's bytes.
+use mathlib.Core.Path.{_≡_, sym, ap}
+use mathlib.Core.Logic.{_↔_}
+use mathlib.Core.Bool.{not}
+use mathlib.Core.List.{List, [], _∷_}
+use Prim.Native.Nat.{ℕ, _<_}
+use lib.{Dec.ltb, ListN.length}
+use Rattle.base.specs.Lists.{Bytes, first}
+use Rattle.base.specs.Answer.{Answer, refused, pageAfter, rowAt, rowAmong, Clear, Answers}
+use Rattle.base.specs.Computed.{failsIf, failsAt, andThen}
+use Rattle.base.proofs.Says.{says-ltb, says-not}
+use Rattle.base.proofs.RefusalLaws.{Tells, passes-iff, tells-if, tells-at, tells-then, answers-iff}
+use Rattle.term.specs.{Term.Term, Step.Deducible}
+use Rattle.submission.specs.{Record.steps, Record.verifying, Record.wayAt, Record.InKnowledge, Way.wayOf, Computed.checks1to5}
+use Rattle.submission.proofs.theory.{ListedTerms.Claimed, ReadingRows.tells-1-to-5, ReadingRows.claimed-clear}
+use Rattle.derivation.specs.{Computed.checkSteps, Step.Premise, Step.StepFits, Step.rows6and7}
+use Rattle.derivation.proofs.theory.StepMeaning.{fits-iff, steps-pass, tells-6-and-7}
+use Rattle.deduction.proofs.theory.DeducibleAnswer.{deducible-exact}
+use Rattle.program.specs.Program.{bytesOf, programLength}
+use Rattle.machine.proofs.theory.RunAnswer.{run-exact}
+use Rattle.conditions.specs.Computed.{reachable, hasSecondWay, undone, checks8to10, checks1to10, checkAnswer}
+use Rattle.conditions.specs.{Condition.SecondWay, Condition.Undone, Condition.checkRows, Check.program, Demand.Demand1}
+use Rattle.conditions.proofs.theory.ConditionsMeant.{says-reachable, second-way-iff, says-undone}
 
--- ---- the checks' numbers, for whatever holds of 1 to n
-abbrev UpTo : (ℕ → Type 0) → ℕ → Type 0
-UpTo P n = (k : ℕ) → 1 ≤ k → k ≤ n → P k
+-- ---- checking
+module _ (s : List ℕ) (b : Bytes s) where
+  -- checks 8 to 10, of a claim and of steps that are right
+  tells-8-to-10 : (c : Claimed s) → ((i : ℕ) → i < steps s → StepFits s i) →
+      Tells (checks8to10 s) (rowAt 8 (verifying s) ((x : Term) → Premise s (verifying s) x → Deducible (InKnowledge s) x) ∷ rowAt 9 (verifying s) (SecondWay s (wayOf (wayAt s)) → ⊥) ∷ rowAmong 10 (steps s) (Undone s) ∷ [])
+  tells-8-to-10 c sound =
+      tells-then (failsIf (reachable s) 8 (verifying s)) _ (tells-if (reachable s) 8 (verifying s) (says-reachable c sound)) (λ _.
+      tells-then (failsIf (not (hasSecondWay s (wayOf (wayAt s)))) 9 (verifying s)) (failsAt 10 (first (undone s) (steps s)))
+      (tells-if (not (hasSecondWay s (wayOf (wayAt s)))) 9 (verifying s) (says-not _ (second-way-iff c sound))) (λ _.
+      tells-at 10 (undone s) (steps s) (says-undone c sound)))
 
-module _ {P : ℕ → Type 0} (s : List ℕ) where
-  four : UpTo P 4 → FailsWith P (checks1to4 s)
-  unfolding checks1to4
-  four f =
-      then-with (failsIf (badContents s) 1 0) _ (if-with (badContents s) 1 0 (f 1 (omega arith) (omega arith)))
-      (then-with (failsAt 2 (first (badCount s) 4)) _ (at-with 2 (first (badCount s) 4) (f 2 (omega arith) (omega arith)))
-      (then-with (failsAt 3 (first (badTerm s) (terms s))) (failsAt 4 (first (badKnowledge s) (entries s))) (at-with 3 (first (badTerm s) (terms s)) (f 3 (omega arith) (omega arith)))
-      (at-with 4 (first (badKnowledge s) (entries s)) (f 4 (omega arith) (omega arith)))))
+  all-fit : (c : Claimed s) → Clear (rows6and7 s ∷ []) → (i : ℕ) → i < steps s → StepFits s i
+  all-fit c k i l = fits-iff (c .read) i .0 (steps-pass s .0 (passes-iff (tells-6-and-7 c) .1 k) i l .0)
 
-  five : UpTo P 5 → FailsWith P (checks1to5 s)
-  unfolding checks1to5
-  five f = then-with (checks1to4 s) (failsIf (not (goodClaim s)) 5 0) (four (λ k a b. f k a (omega arith))) (if-with (not (goodClaim s)) 5 0 (f 5 (omega arith) (omega arith)))
+  tells-check : (room : ℕ) → Tells (andThen (checks1to10 s) (failsIf (ltb room (programLength (steps s))) 11 (programLength (steps s)))) (checkRows s room)
+  unfolding checks1to10
+  tells-check room =
+      tells-then (checks1to10 s) (failsIf (ltb room (programLength (steps s))) 11 (programLength (steps s)))
+      (tells-then (checks1to5 s) (andThen (checkSteps s) (checks8to10 s)) (tells-1-to-5 s) (λ k. let c = claimed-clear s b k in
+      tells-then (checkSteps s) (checks8to10 s) (tells-6-and-7 c) (λ m. tells-8-to-10 c (all-fit c m))))
+      (λ _. tells-if (ltb room (programLength (steps s))) 11 (programLength (steps s)) (says-ltb room (programLength (steps s))))
 
-  fault : (o : Option ℕ) → P 6 → P 7 → FailsWith P (stepFault s o)
-  fault none a b = passes-with
-  fault (some i) a b = fails-with (picked (badStep s i))
-    where
-      picked : (t : Bool) → P (cond t 6 7)
-      picked true = a
-      picked false = b
-
-  ten : UpTo P 10 → FailsWith P (checks1to10 s)
-  unfolding checks1to10 checkSteps
-  ten f =
-      then-with (checks1to5 s) _ (five (λ k a b. f k a (omega arith)))
-      (then-with (checkSteps s) _ (fault (first (λ i. badStep s i || unfounded s i) (steps s)) (f 6 (omega arith) (omega arith)) (f 7 (omega arith) (omega arith)))
-      (then-with (failsIf (reachable s) 8 (verifying s)) _ (if-with (reachable s) 8 (verifying s) (f 8 (omega arith) (omega arith)))
-      (then-with (failsIf (not (hasSecondWay s (wayOf (wayAt s)))) 9 (verifying s)) (failsAt 10 (first (undone s) (steps s))) (if-with (not (hasSecondWay s (wayOf (wayAt s)))) 9 (verifying s) (f 9 (omega arith) (omega arith)))
-      (at-with 10 (first (undone s) (steps s)) (f 10 (omega arith) (omega arith))))))
-
--- ---- Demand 1, the numbers of refusals: checking makes checks 1 to 11
-pub check-refusals : (s : List ℕ) (pageLength number place : ℕ) → checkAnswer s pageLength ≡ refused number place → (1 ≤ number) × (number ≤ 11)
+-- Checking refuses with n at p exactly when row n holds at p and no row holds that the order puts before it; else it is done with N.
+pub check-exact : (s : List ℕ) → Bytes s → (room : ℕ) (a : Answer) → (checkAnswer s room ≡ a) ↔ Answers (checkRows s room) (λ n. n ≡ steps s) a
 unfolding checkAnswer
-check-refusals s pageLength number place =
-    refused-with {P = λ k. (1 ≤ k) × (k ≤ 11)} (andThen (checks1to10 s) (failsIf (ltb pageLength (programLength (steps s))) 11 (programLength (steps s)))) (steps s) number place
-    (then-with (checks1to10 s) (failsIf (ltb pageLength (programLength (steps s))) 11 (programLength (steps s))) (ten s (λ k a b. omega arith)) (if-with (ltb pageLength (programLength (steps s))) 11 (programLength (steps s)) (omega arith)))
+check-exact s b room = answers-iff (tells-check s b room) (steps s) (λ n. n ≡ steps s) (λ _ n. (sym, sym))
 
--- "Deducible makes checks 1 to 4, then 12;
-pub deducible-refusals : (s : List ℕ) (n number place : ℕ) → deducibleAnswer s n ≡ refused number place → ((1 ≤ number) × (number ≤ 4)) ⊎ (number ≡ 12)
-unfolding deducibleAnswer
-deducible-refusals s n number place =
-    refused-with {P = λ k. ((1 ≤ k) × (k ≤ 4)) ⊎ (k ≡ 12)} _ _ number place
-    (then-with (checks1to4 s) _ (four s (λ k a b. inl (a, b))) (if-with (not (ltb n (terms s))) 12 0 (inr refl)))
-
--- run makes 1 to 5, then 13."
-pub run-refusals : (s : List ℕ) (name : ℕ) (P : List ℕ) (number place : ℕ) → runAnswer s name P ≡ refused number place → ((1 ≤ number) × (number ≤ 5)) ⊎ (number ≡ 13)
-unfolding runAnswer
-run-refusals s name P number place =
-    refused-with {P = λ k. ((1 ≤ k) × (k ≤ 5)) ⊎ (k ≡ 13)} (andThen (checks1to5 s) (failsIf (badProgram s P) 13 0)) (signal s name P) number place
-    (then-with (checks1to5 s) (failsIf (badProgram s P) 13 0) (five s (λ k a b. inl (a, b))) (if-with (badProgram s P) 13 0 (inr refl)))
+-- ---- Demand 1
+pub demand-1 : Demand1
+demand-1 = record { check = check-exact; deducible = deducible-exact; run = run-exact }
 
 -- "Every refusal carries number and place, and the page keeps its bytes."
 pub refused-page : (s page : List ℕ) (number place : ℕ) → checkAnswer s (length page) ≡ refused number place → pageAfter (checkAnswer s (length page)) (bytesOf (program s)) page ≡ page

@@ -22,22 +22,22 @@ use Rattle.term.proofs.Reach.{Reach, known, reach-iff}
 use Rattle.term.proofs.Guess.{UndoesSome, OutOfReach, FreshGuess, MayHold, clean, tried, Executed, op-may-hold, another-step-differs, at-start-differs, verified-no-key}
 use Rattle.submission.specs.{Record.entries, Record.steps, Record.entryAt, Record.ruleAt, Record.pAt, Record.qAt, Record.conclusionAt, Record.guess, Record.verifying, Record.wayAt, Record.companion, Record.nameAt, Record.term, Computed.areInverse, Record.InKnowledge}
 use Rattle.submission.specs.Way.{Way, another-step, at-start, inverse-key, wayOf}
-use Rattle.submission.proofs.theory.ListedTerms.{Claimed, claimed}
+use Rattle.submission.proofs.theory.{ListedTerms.Claimed, ReadingRows.claimed-clear}
 use Rattle.derivation.specs.{Register.written, Computed.isKnown}
 use Rattle.submission.specs.Record.{secondAt}
-use Rattle.derivation.proofs.theory.RegisterTerms.{says-known, result-register}
-use Rattle.derivation.proofs.theory.StepMeaning.{founded-iff}
-use Rattle.program.specs.Program.{relationOf, bytesOf, badInstruction, badTest, badProgram}
+use Rattle.derivation.proofs.theory.{RegisterTerms.result-register, KnownPremises.first-known, KnownPremises.second-known}
+use Rattle.program.specs.Program.{relationOf, bytesOf}
 use Rattle.machine.specs.Run.{atomKind, guessed, holds as relates, signals, signal}
 use Rattle.program.proofs.theory.Bytes.{byte-count, test-back, program-passes}
 use Rattle.machine.proofs.theory.RunRegisters.{register-entry, register-guess, says-equal, says-inverse}
 use Rattle.conditions.specs.Computed.{hasSecondWay}
-use Rattle.conditions.specs.Condition.{WellFormed, FiveConditions, Differs, SecondWay, UndoesNone}
+use Rattle.conditions.specs.Condition.{WellFormed, FiveConditions, Differs, SecondWay, UndoneBy}
 use Rattle.derivation.specs.Step.{rule, firstPremise, secondPremise, concluded}
 use Rattle.conditions.specs.Check.{lowest, instruction, program, testFor}
 use Rattle.conditions.specs.Demand.{WrongGuess}
-use Rattle.conditions.proofs.theory.ConditionsMeant.{founded-terms, second-way-iff}
+use Rattle.conditions.proofs.theory.ConditionsMeant.{founded-at, second-way-iff}
 use Rattle.conditions.proofs.theory.ProgramRun.{lowest-known, program-steps, value, result, same-operand, holds, holds-lowest}
+use Rattle.program.specs.Computed.{badInstruction, badTest, badProgram}
 
 -- a step of the derivation
 abbrev InDerivation : List ℕ → Head → Term → Term → Term → Type 0
@@ -59,7 +59,7 @@ module _ (s : List ℕ) (name : ℕ) where
 
 module _ (s : List ℕ) (bytes : Bytes s) (w : WellFormed s) (c : FiveConditions s) where
   claim : Claimed s
-  claim = claimed s bytes (w .read)
+  claim = claimed-clear s bytes (w .read)
 
   guess-right : term s (guess s) ≡ guessed s (nameAt s (guess s))
   unfolding guessed
@@ -68,8 +68,8 @@ module _ (s : List ℕ) (bytes : Bytes s) (w : WellFormed s) (c : FiveConditions
   -- what is known, by term numbers: the premises of a step, way b's term and way c's inverse
   premises-known : (i : ℕ) → i < steps s → (isKnown s i (pAt s i) ≡ true) × (isKnown s i (secondAt s i) ≡ true)
   premises-known i l =
-      let (p, q) = founded-iff s i .0 (founded-terms claim (w .shaped) i l .1 (c .founded i l)) in
-      (says-known s i (pAt s i) .1 p, says-known s i (secondAt s i) .1 q)
+      let f = founded-at claim (w .shaped) i l .1 (c .founded i l) in
+      (first-known s i f, second-known s i f)
 
   way-found : {o : Option Way} → wayOf (wayAt s) ≡ o → hasSecondWay s o ≡ true
   way-found e = subst (λ o. hasSecondWay s o ≡ true) e (second-way-iff claim (w .shaped) .1 (c .secondWay))
@@ -143,7 +143,7 @@ module _ (s : List ℕ) (bytes : Bytes s) (w : WellFormed s) (c : FiveConditions
   right-signal = rw (signal-asks s right, asked-right (wayOf (wayAt s)) refl (c .secondWay))
 
   -- ---- a wrong guess
-  undoes-none : (j : ℕ) → UndoesNone s j → UndoesSome (InDerivation s) (rule s j) (firstPremise s j) (concluded s j) → ⊥
+  undoes-none : (j : ℕ) → ((i : ℕ) → i < steps s → UndoneBy s j i → ⊥) → UndoesSome (InDerivation s) (rule s j) (firstPremise s j) (concluded s j) → ⊥
   undoes-none j f (h, p, q, t, (i, l, a, b, d, e), u) = f i l (subst₃ (Undoes (rule s j) (firstPremise s j) (concluded s j)) a b e u)
 
   out-of-reach : OutOfReach (InKnowledge s) (firstPremise s (verifying s)) (secondPremise s (verifying s))
@@ -200,20 +200,20 @@ module _ (s : List ℕ) (bytes : Bytes s) (w : WellFormed s) (c : FiveConditions
     asked-wrong (some another-step) e (l, f, d) =
         denies _ (says-equal _ _) .1 (λ z.
         another-step-differs (InKnowledge s) (InDerivation s) (term s (guess s)) (guessed s name) fresh-guess
-        (ran (verifying s) (c .present)) out-of-reach (undoes-none (verifying s) (c .kept))
+        (ran (verifying s) (c .present)) out-of-reach (undoes-none (verifying s) (λ i l u. c .kept i l (inl u)))
         (subst (Ran (companion s)) f (ran (companion s) l))
-        (subst (λ t. UndoesSome (InDerivation s) (rule s (companion s)) (firstPremise s (companion s)) t → ⊥) f (undoes-none (companion s) (c .companionKept e)))
+        (subst (λ t. UndoesSome (InDerivation s) (rule s (companion s)) (firstPremise s (companion s)) t → ⊥) f (undoes-none (companion s) (λ i l u. c .kept i l (inr (e, u)))))
         (unlike s (verifying s) (companion s) d)
         (sym verified-value ∙ sym z ∙ result s name (companion s) (steps s) l (omega arith)))
     asked-wrong (some at-start) e k =
         denies _ (says-equal _ _) .1 (λ z.
         at-start-differs (InKnowledge s) (InDerivation s) (term s (guess s)) (guessed s name) fresh-guess
-        (ran (verifying s) (c .present)) out-of-reach (undoes-none (verifying s) (c .kept))
+        (ran (verifying s) (c .present)) out-of-reach (undoes-none (verifying s) (λ i l u. c .kept i l (inl u)))
         _ (at-start-value (steps s) _ (lowest-known s 0 _ (omega arith) (way-found e) .1)) (sym verified-value ∙ sym z))
     asked-wrong (some inverse-key) e z =
         denies _ (says-inverse _ _) .1 (λ (k, _).
         verified-no-key (InKnowledge s) (InDerivation s) (term s (guess s)) (guessed s name) fresh-guess
-        (ran (verifying s) (c .present)) out-of-reach (undoes-none (verifying s) (c .kept)) (subst isKey verified-value k))
+        (ran (verifying s) (c .present)) out-of-reach (undoes-none (verifying s) (λ i l u. c .kept i l (inl u))) (subst isKey verified-value k))
 
     pub wrong-signal : signal s name (bytesOf (program s)) ≡ 0
     wrong-signal = rw (signal-asks s name, asked-wrong (wayOf (wayAt s)) refl (c .secondWay))

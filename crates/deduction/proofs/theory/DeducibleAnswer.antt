@@ -1,27 +1,30 @@
 -- What deducible answers: 1 exactly for the terms that steps reach, and the same for submissions alike in terms and knowledge.
 use mathlib.Core.Path.{_≡_, refl, ap, sym, _∙_, subst}
-use mathlib.Core.Logic.{_↔_, ⊎-elim}
-use mathlib.Core.Bool.{Bool, true, false, not, cond, true≢false, false≢true}
-use mathlib.Core.List.{List, []}
+use mathlib.Core.Logic.{_↔_, _⊎_, inl, inr, ⊎-elim}
+use mathlib.Core.Bool.{Bool, true, false, not, cond, false≢true}
+use mathlib.Core.List.{List, [], _∷_}
 use Prim.Native.Nat.{ℕ, _≤_, _<_}
 use native.Mathlib.Omega.{arith}
 use lib.Dec.{ltb}
-use borrow.Author.Tests.{lt-ltb, le-ltb, ltb-true}
+use borrow.Author.Tests.{lt-ltb, le-ltb}
 use Rattle.base.proofs.Order.{lt-or-ge}
-use Rattle.base.proofs.Says.{denies, same-test, not-not-false}
+use Rattle.base.proofs.Says.{Says, says-not-ltb, same-test}
 use Rattle.term.specs.Term.{Term}
 use Rattle.term.specs.Step.{Deducible}
 use Rattle.term.specs.Code.{Table}
 use Rattle.term.proofs.Table.{tables-agree}
-use Rattle.base.specs.Answer.{done, refused, passes, failsIf, andThen}
+use Rattle.base.specs.Answer.{Answer, done, refused, rowAt, Clear, Answers}
 use Rattle.base.specs.Lists.{Bytes}
-use Rattle.submission.specs.Check.{checks1to4}
+use Rattle.base.specs.Computed.{passes, failsIf}
 use Rattle.submission.specs.Record.{terms, entryAt, recordAt, term, InKnowledge}
-use Rattle.base.proofs.AnswerLaws.{then-passes, if-passes, answered-done}
+use Rattle.base.proofs.RefusalLaws.{passes-iff, answers-iff, tells-if, tells-then, clear-split}
+use Rattle.submission.specs.Check.{rows1to4}
+use Rattle.submission.proofs.theory.ReadingRows.{tells-1-to-4}
 use Rattle.submission.proofs.theory.ListedTerms.{Listed, listed}
 use Rattle.deduction.specs.Computed.{entryMarks, isDeducible}
-use Rattle.deduction.specs.{Computed.Marked, Deduce.deducibleAnswer, Deduce.Alike}
+use Rattle.deduction.specs.{Computed.Marked, Computed.deducibleAnswer, Deduce.deducibleRows, Deduce.DeducibleValue, Deduce.Alike}
 use Rattle.deduction.proofs.theory.Exactness.{deducible-from-iff, deducible-trans, deducible-iff}
+use Rattle.submission.specs.Computed.{checks1to4}
 
 alike-sym : {s s′ : List ℕ} → Alike s s′ → Alike s′ s
 alike-sym a = record {
@@ -58,51 +61,49 @@ above-answer : (s : List ℕ) (n : ℕ) → checks1to4 s ≡ passes → terms s 
 unfolding deducibleAnswer
 above-answer s n e l = rw (e, le-ltb n (terms s) l)
 
-passes-iff : (s : List ℕ) (n : ℕ) → (andThen (checks1to4 s) (failsIf (not (ltb n (terms s))) 12 0) ≡ passes) ↔ ((checks1to4 s ≡ passes) × (n < terms s))
-passes-iff s n =
-    let (f, g) = then-passes (checks1to4 s) (failsIf (not (ltb n (terms s))) 12 0) in
-    let (h, k) = if-passes (not (ltb n (terms s))) 12 0 in
-    let (p, q) = not-not-false (ltb n (terms s)) in
-    (λ e. let (x, y) = f e in (x, ltb-true n (terms s) (p (h y))), λ (x, l). g (x, k (q (lt-ltb n (terms s) l))))
+-- 1 where the test says so, and else 0
+says-value : {P : Type 0} (b : Bool) → Says b P → (v : ℕ) → (cond b 1 0 ≡ v) ↔ (((v ≡ 1) × P) ⊎ ((v ≡ 0) × (P → ⊥)))
+says-value true s v = (λ e. inl (sym e, s .0 refl), ⊎-elim (λ (e, x). sym e) (λ (e, f). absurd (f (s .0 refl))))
+says-value false s v = (λ e. inr (sym e, λ x. false≢true (s .1 x)), ⊎-elim (λ (e, x). absurd (false≢true (s .1 x))) (λ (e, f). sym e))
 
-cond-one : (b : Bool) → (_≡_ {A = ℕ} (cond b 1 0) 1) ↔ (b ≡ true)
-cond-one true = (λ e. refl, λ e. refl)
-cond-one false = (λ e. absurd (omega arith), λ e. absurd (false≢true e))
+-- ---- Demand 1, deducible, and demand 2
+-- Deducible answers as rows 1 to 4 and row 12 say, and else 1 exactly where a finite list of steps reaches the term: "A term is deducible if a finite
+-- list of such steps reaches it from the knowledge alone, over all terms, not only those listed."
+pub deducible-exact : (s : List ℕ) → Bytes s → (n : ℕ) (a : Answer) → (deducibleAnswer s n ≡ a) ↔ Answers (deducibleRows s n) (DeducibleValue s n) a
+unfolding deducibleAnswer
+deducible-exact s b n =
+    answers-iff
+    (tells-then (checks1to4 s) (failsIf (not (ltb n (terms s))) 12 0) (tells-1-to-4 s) (λ _. tells-if _ 12 0 (says-not-ltb n (terms s))))
+    (cond (isDeducible s (entryMarks s) n) 1 0) (DeducibleValue s n)
+    (λ c. let (x, y) = clear-split (rows1to4 s) (rowAt 12 0 (terms s ≤ n) ∷ []) c in says-value _ (deducible-iff (listed s b (passes-iff (tells-1-to-4 s) .1 x)) n (below (y .0 12 0))))
+  where
+    below : (rowAt 12 0 (terms s ≤ n) 12 0 → ⊥) → n < terms s
+    below f = ⊎-elim (λ l. l) (λ l. absurd (f (refl, refl, l))) (lt-or-ge n (terms s))
 
-cond-zero : (b : Bool) → (_≡_ {A = ℕ} (cond b 1 0) 0) ↔ (b ≡ false)
-cond-zero true = (λ e. absurd (omega arith), λ e. absurd (true≢false e))
-cond-zero false = (λ e. refl, λ e. refl)
+-- yes and no
+module _ (s : List ℕ) (b : Bytes s) (n : ℕ) where
+  pub yes-exact : (deducibleAnswer s n ≡ done 1) ↔ (Clear (deducibleRows s n) × Deducible (InKnowledge s) (term s n))
+  yes-exact =
+      let (f, g) = deducible-exact s b n (done 1) in
+      (λ e. let (c, v) = f e in (c, ⊎-elim (λ u. u .1) (λ u. absurd (omega (arith, u .0))) v), λ (c, d). g (c, inl (refl, d)))
 
-module _ (s : List ℕ) (bytes : Bytes s) (n : ℕ) where
-  exact-where : {A B : Type 0} (v : ℕ) → ((_≡_ {A = ℕ} (cond (isDeducible s (entryMarks s) n) 1 0) v) ↔ A) → (Listed s → n < terms s → A ↔ B) →
-      (deducibleAnswer s n ≡ done v) ↔ ((checks1to4 s ≡ passes) × (n < terms s) × B)
-  unfolding deducibleAnswer
-  exact-where v (f, g) h =
-      let (p, q) = answered-done (andThen (checks1to4 s) (failsIf (not (ltb n (terms s))) 12 0)) (cond (isDeducible s (entryMarks s) n) 1 0) v in
-      let (x, y) = passes-iff s n in (
-        λ e. let (c, o) = p e in let (k, l) = x c in (k, l, h (listed s bytes k) l .0 (f o)),
-        λ (k, l, b). q (y (k, l), g (h (listed s bytes k) l .1 b)),
-      )
-
--- ---- Demand 2, deducible
--- "A term is deducible if a finite list of such steps reaches it from the knowledge alone, over all terms, not only those listed."
--- Where checks 1 to 4 pass and the number is below T, the answer is 1 exactly when such a list reaches the term, and 0 when none does.
-pub yes-exact : (s : List ℕ) → Bytes s → (n : ℕ) → (deducibleAnswer s n ≡ done 1) ↔ ((checks1to4 s ≡ passes) × (n < terms s) × Deducible (InKnowledge s) (term s n))
-yes-exact s b n = exact-where s b n 1 (cond-one _) (λ z l. deducible-iff z n l)
-
-pub no-exact : (s : List ℕ) → Bytes s → (n : ℕ) → (deducibleAnswer s n ≡ done 0) ↔ ((checks1to4 s ≡ passes) × (n < terms s) × (Deducible (InKnowledge s) (term s n) → ⊥))
-no-exact s b n = exact-where s b n 0 (cond-zero _) (λ z l. denies _ (deducible-iff z n l))
+  pub no-exact : (deducibleAnswer s n ≡ done 0) ↔ (Clear (deducibleRows s n) × (Deducible (InKnowledge s) (term s n) → ⊥))
+  no-exact =
+      let (f, g) = deducible-exact s b n (done 0) in
+      (λ e. let (c, v) = f e in (c, ⊎-elim (λ u. absurd (omega (arith, u .0))) (λ u. u .1) v), λ (c, d). g (c, inr (refl, d)))
 
 -- From any marked terms, not only from the knowledge: the computed test says whether a finite list of steps reaches the term from those
 -- that are marked. Marks of numbers that are not below T count for nothing.
-pub from-marks-exact : (s : List ℕ) → Bytes s → checks1to4 s ≡ passes → (m : List Bool) (n : ℕ) → n < terms s →
+pub from-marks-exact : (s : List ℕ) → Bytes s → Clear (rows1to4 s) → (m : List Bool) (n : ℕ) → n < terms s →
     (isDeducible s m n ≡ true) ↔ Deducible (Marked s m) (term s n)
-from-marks-exact s b e m n l = deducible-from-iff (listed s b e) m n l
+from-marks-exact s b c m n l = deducible-from-iff (listed s b (passes-iff (tells-1-to-4 s) .1 c)) m n l
 
 -- "The answer is the same for two submissions alike in terms and knowledge that both pass checks 1 to 4."
-pub same-deducible : (s s′ : List ℕ) → Bytes s → Bytes s′ → checks1to4 s ≡ passes → checks1to4 s′ ≡ passes → Alike s s′ →
+pub same-deducible : (s s′ : List ℕ) → Bytes s → Bytes s′ → Clear (rows1to4 s) → Clear (rows1to4 s′) → Alike s s′ →
     (n : ℕ) → deducibleAnswer s n ≡ deducibleAnswer s′ n
-same-deducible s s′ b b′ e e′ a n =
+same-deducible s s′ b b′ c c′ a n =
+    let e = passes-iff (tells-1-to-4 s) .1 c in
+    let e′ = passes-iff (tells-1-to-4 s′) .1 c′ in
     ⊎-elim
     (λ l. below-answer s n e l ∙ ap (λ x. done (cond x 1 0)) (same-answer (listed s b e) (listed s′ b′ e′) a n l)
     ∙ sym (below-answer s′ n e′ (omega (arith, a .same-terms))))

@@ -8,7 +8,7 @@ use Prim.Native.Nat.{ℕ, zero, suc, _<_}
 use lib.Dec.{eqb}
 use lib.ListN.{length}
 use borrow.Author.Tests.{eq-eqb}
-use Rattle.base.specs.Lists.{any, listed}
+use Rattle.base.specs.Lists.{listed}
 use Rattle.base.proofs.Says.{Says, says-eqb, says-and, says-or, says-any, says-true, same-test}
 use Rattle.base.proofs.BoolLaws.{or-left, or-right, and-both}
 use Rattle.base.proofs.Grow.{length-listed, listed-at}
@@ -25,6 +25,7 @@ use Rattle.submission.proofs.theory.ListedTerms.{Listed}
 use Rattle.deduction.specs.Computed.{at, built, opens, gives, taken, round, isEntry, entryMarks, rounds, isDeducible, Marked}
 use Rattle.deduction.specs.Code.{SameMarks}
 use Rattle.deduction.proofs.theory.BuildTestLaws.{same-built, says-built}
+use Rattle.base.specs.Computed.{any}
 
 -- ---- taking apart
 module _ {s : List ℕ} (z : Listed s) (m : List Bool) where

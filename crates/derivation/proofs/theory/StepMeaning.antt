@@ -1,24 +1,30 @@
 -- Checks 6 and 7: a step that passes check 6 is a Dolev-Yao step of terms, and what passing both says of all steps.
 use mathlib.Core.Path.{_≡_, refl, sym, ap, ap₂, _∙_, subst}
-use mathlib.Core.Logic.{_↔_, Iff·trans}
+use mathlib.Core.Logic.{_↔_, _⊎_, inl, inr, ⊎-elim, Iff·trans}
 use mathlib.Core.Bool.{Bool, true, false, _||_, cond, false≢true}
-use mathlib.Core.List.{List}
+use mathlib.Core.List.{List, [], _∷_}
 use mathlib.Core.Option.{Option, none, some}
-use Prim.Native.Nat.{ℕ, _<_}
+use Prim.Native.Nat.{ℕ, _<_, _≤_}
 use native.Mathlib.Omega.{arith}
-use Rattle.base.proofs.Says.{Says, says-true, says-eqb, says-ltb, says-and, not-not-false, or-false, none-fails}
-use Rattle.term.specs.Term.{Cipher, symmetric, asymmetric, Side, left, right, pair, encryption, unary, Head, make, part, decrypt, node, single, Match, compound, second, Second, absent, anything, keyFor, pick}
+use Rattle.base.specs.Lists.{first}
+use Rattle.base.specs.Answer.{First}
+use Rattle.base.proofs.Order.{lt-or-ge}
+use Rattle.base.proofs.First.{first-none, first-some}
+use Rattle.base.proofs.Says.{Says, says-true, says-eqb, says-ltb, says-and, says-not-both, refutes, denies, not-not-false, or-false, or-other, none-fails}
+use Rattle.base.proofs.RefusalLaws.{Tells}
+use Rattle.term.specs.Term.{Cipher, symmetric, asymmetric, Side, left, right, pair, encryption, unary, Head, make, part, decrypt, Term, node, single, Match, compound, second, Second, absent, anything, keyFor, pick}
 use Rattle.term.specs.Code.{Message}
 use Rattle.term.specs.Computed.{kindOf}
 use Rattle.term.specs.Step.{Step}
 use Rattle.term.specs.Number.{rules, headOf, hasOne}
-use Rattle.base.specs.Answer.{passes}
-use Rattle.submission.specs.Record.{terms, steps, kindAt, xAt, yAt, ruleAt, pAt, qAt, conclusionAt, term, secondAt}
+use Rattle.base.specs.Computed.{passes}
+use Rattle.submission.specs.Record.{terms, steps, kindAt, xAt, yAt, ruleAt, pAt, qAt, conclusionAt, term, secondAt, entryAt, guess}
 use Rattle.base.proofs.AnswerLaws.{fails-not-passes}
-use Rattle.submission.proofs.theory.{GoodRecord.HasSecond, ListedTerms.Listed, ListedTerms.compound-term, ListedTerms.form-of}
-use Rattle.derivation.specs.{Computed.partAt, Computed.opensWith, Computed.follows, Computed.badStep, Computed.unfounded, Step.stepFault, Step.checkSteps}
+use Rattle.submission.specs.Check.{HasSecond}
+use Rattle.submission.proofs.theory.{ListedTerms.Listed, ListedTerms.Claimed, ListedTerms.compound-term, ListedTerms.form-of}
+use Rattle.derivation.specs.{Computed.partAt, Computed.opensWith, Computed.follows, Computed.badStep, Computed.unfounded, Computed.isKnown, Computed.stepFault, Computed.checkSteps}
 use Rattle.derivation.proofs.theory.RegisterTerms.{KnownNumber, says-known}
-use Rattle.derivation.specs.Step.{StepFits}
+use Rattle.derivation.specs.Step.{firstPremise, secondPremise, Premise, StepFits, Known, rows6and7}
 
 -- ---- check 6
 -- what the test of a step says, by its head
@@ -138,9 +144,38 @@ unfolding secondAt
 second-listed w = picked-below (hasOne _) _ _ _ (w .p-below) (w .q-below)
 
 -- ---- check 7
-pub founded-iff : (s : List ℕ) (i : ℕ) → (unfounded s i ≡ false) ↔ (KnownNumber s i (pAt s i) × KnownNumber s i (secondAt s i))
-unfolding unfounded
-founded-iff s i = Iff·trans (not-not-false _) (says-and _ _ (says-known s i (pAt s i)) (says-known s i (secondAt s i)))
+-- "A premise is known if it is in the knowledge, is the guess, or was concluded by an earlier step", of numbers and of terms
+module _ {s : List ℕ} (c : Claimed s) (i : ℕ) (sound : (j : ℕ) → j < i → StepFits s j) where
+  pub known-iff : (n : ℕ) → n < terms s → KnownNumber s i n ↔ Known s i (term s n)
+  known-iff n b = (up, down)
+    where
+      up : KnownNumber s i n → Known s i (term s n)
+      up (inl (r, k, e)) = inl (r, k, ap (term s) e)
+      up (inr (inl e)) = inr (inl (ap (term s) e))
+      up (inr (inr (j, k, e))) = inr (inr (j, k, ap (term s) e))
+
+      down : Known s i (term s n) → KnownNumber s i n
+      down (inl (r, k, e)) = inl (r, k, c .read .same-number n (entryAt s r) b (c .read .entry-below r k) e)
+      down (inr (inl e)) = inr (inl (c .read .same-number n (guess s) b (c .guess-below) e))
+      down (inr (inr (j, k, e))) = inr (inr (j, k, c .read .same-number n (conclusionAt s j) b (sound j k .conclusion-below) e))
+
+  pub says-known-term : (n : ℕ) → n < terms s → Says (isKnown s i n) (Known s i (term s n))
+  says-known-term n b = Iff·trans (says-known s i n) (known-iff n b)
+
+  -- row 7: "a premise not known"
+  pub says-unfounded : StepFits s i → Says (unfounded s i) ((x : Term) × Premise s i x × (Known s i x → ⊥))
+  unfolding unfounded
+  says-unfounded f =
+      let p = says-known-term (pAt s i) (f .p-below) in
+      let q = says-known-term (secondAt s i) (second-listed f) in
+      Iff·trans (says-not-both _ _ p q) (
+        ⊎-elim (λ u. (firstPremise s i, inl refl, u)) (λ u. (secondPremise s i, inr refl, u)),
+        λ (x, m, u). ⊎-elim (λ e. inl (λ k. u (rw e k))) (λ e. inr (λ k. u (rw e k))) m,
+      )
+
+  pub founded-terms : StepFits s i → (unfounded s i ≡ false) ↔ (Known s i (firstPremise s i) × Known s i (secondPremise s i))
+  unfolding unfounded
+  founded-terms f = Iff·trans (not-not-false _) (says-and _ _ (says-known-term (pAt s i) (f .p-below)) (says-known-term (secondAt s i) (second-listed f)))
 
 -- ---- checks 6 and 7, step by step
 fault-none : (s : List ℕ) (o : Option ℕ) → (stepFault s o ≡ passes) ↔ (o ≡ none)
@@ -152,3 +187,56 @@ unfolding checkSteps
 steps-pass s =
     let w = Iff·trans (fault-none s _) (none-fails (λ i. badStep s i || unfounded s i) (steps s)) in
     (λ e i l. or-false _ _ .0 (w .0 e i l), λ f. w .1 (λ i l. or-false _ _ .1 (f i l)))
+
+-- rows 6 and 7, tried together
+module _ {s : List ℕ} (c : Claimed s) where
+  says-unfit : (i : ℕ) → Says (badStep s i) (StepFits s i → ⊥)
+  says-unfit i = refutes _ (fits-iff (c .read) i)
+
+  -- where no step before i is bad or unfounded, row 6 or 7 holds at no place before it
+  none-before : (i : ℕ) → ((k : ℕ) → k < i → (badStep s k ≡ false) × (unfounded s k ≡ false)) → (m q : ℕ) → rows6and7 s m q → q < i → ⊥
+  none-before i before m q (inl (e, l, u)) b = denies _ (says-unfit q) .0 (before q b .0) u
+  none-before i before m q (inr (e, l, u)) b =
+      let f : (j : ℕ) → j < i → StepFits s j = λ j k. fits-iff (c .read) j .0 (before j k .0) in
+      denies _ (says-unfounded c q (λ j k. f j (omega arith)) (f q b)) .0 (before q b .1) u
+
+  -- the first step that is bad or unfounded: 6 where it is bad, else 7
+  first-fault : (i : ℕ) → i < steps s → ((k : ℕ) → k < i → (badStep s k ≡ false) × (unfounded s k ≡ false)) → (b : Bool) → badStep s i ≡ b → (b ≡ false → unfounded s i ≡ true) →
+      First (rows6and7 s) (cond b 6 7) i
+  first-fault i l before true e u = record { holds = inl (refl, l, says-unfit i .0 e); lowest = λ m q h. after m q h (lt-or-ge i q) }
+    where
+      after : (m q : ℕ) → rows6and7 s m q → (i < q) ⊎ (q ≤ i) → (i < q) ⊎ ((i ≡ q) × (6 ≤ m))
+      after m q h (inl a) = inl a
+      after m q (inl (f, k, x)) (inr a) = ⊎-elim (λ b. absurd (none-before i before m q (inl (f, k, x)) b)) (λ b. inr (omega arith, omega arith)) (lt-or-ge q i)
+      after m q (inr (f, k, x)) (inr a) = ⊎-elim (λ b. absurd (none-before i before m q (inr (f, k, x)) b)) (λ b. inr (omega arith, omega arith)) (lt-or-ge q i)
+  first-fault i l before false e u =
+      let f : (j : ℕ) → j < i → StepFits s j = λ j k. fits-iff (c .read) j .0 (before j k .0) in
+      record { holds = inr (refl, l, says-unfounded c i f (fits-iff (c .read) i .0 e) .0 (u refl)); lowest = λ m q h. after m q h (lt-or-ge i q) }
+    where
+      after : (m q : ℕ) → rows6and7 s m q → (i < q) ⊎ (q ≤ i) → (i < q) ⊎ ((i ≡ q) × (7 ≤ m))
+      after m q h (inl a) = inl a
+      after m q (inl (f, k, x)) (inr a) =
+          ⊎-elim (λ b. absurd (none-before i before m q (inl (f, k, x)) b)) (λ b. let z : q ≡ i = omega arith in absurd (denies _ (says-unfit q) .0 (rw z e) x)) (lt-or-ge q i)
+      after m q (inr (f, k, x)) (inr a) = ⊎-elim (λ b. absurd (none-before i before m q (inr (f, k, x)) b)) (λ b. inr (omega arith, omega arith)) (lt-or-ge q i)
+
+  pub tells-6-and-7 : Tells (checkSteps s) (rows6and7 s ∷ [])
+  unfolding checkSteps
+  tells-6-and-7 = go (first (λ i. badStep s i || unfounded s i) (steps s)) refl
+    where
+      go : (o : Option ℕ) → first (λ i. badStep s i || unfounded s i) (steps s) ≡ o → Tells (stepFault s o) (rows6and7 s ∷ [])
+      go none f = record {
+        refuses = λ n p e. fails-not-passes (sym e);
+        clear = λ e. (λ m q h. none-before (steps s) (λ k l. or-false _ _ .0 (first-none _ _ f k l)) m q h (below m q h), tt);
+      }
+        where
+          below : (m q : ℕ) → rows6and7 s m q → q < steps s
+          below m q (inl (e, l, u)) = l
+          below m q (inr (e, l, u)) = l
+      go (some i) f = record {
+        refuses = λ n p e.
+            let (l, h, k) = first-some _ _ i f in
+            let x : cond (badStep s i) 6 7 ≡ n = cc in
+            let y : i ≡ p = cc in
+            inl (subst (λ q. First (rows6and7 s) n q) y (subst (λ m. First (rows6and7 s) m i) x (first-fault i l (λ j b. or-false _ _ .0 (k j b)) (badStep s i) refl (λ z. or-other _ _ h z))));
+        clear = fails-not-passes;
+      }

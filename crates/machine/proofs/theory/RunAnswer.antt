@@ -1,4 +1,5 @@
 -- A run: the instructions of a program that passes check 13, its test, and the answer.
+use mathlib.Core.Logic.{_↔_}
 use mathlib.Core.Path.{_≡_, sym, ap, ap₂, _∙_}
 use mathlib.Core.Bool.{Bool, false, cond}
 use mathlib.Core.Option.{Option, some}
@@ -15,8 +16,11 @@ use Rattle.submission.specs.declared.Reading.{Reading}
 use Rattle.submission.specs.declared.Reading.the-variants.{Refused}
 use Rattle.submission.specs.declared.Reading.the-variants as reading
 use Rattle.submission.specs.Code.{readingCheck, ReadingIs}
-use Rattle.base.specs.Answer.{done, refused, passes, answered}
-use Rattle.submission.specs.Check.{checks1to5}
+use Rattle.base.specs.Answer.{Answer as Given, done, refused, Answers}
+use Rattle.base.proofs.Says.{refutes}
+use Rattle.base.proofs.RefusalLaws.{tells-if, tells-then, answers-iff}
+use Rattle.submission.proofs.theory.ReadingRows.{tells-1-to-5}
+use Rattle.base.specs.Computed.{passes, failsIf, answered}
 use Rattle.base.specs.Code.{checkOf}
 use Rattle.base.specs.Calls.{answerOf}
 use Rattle.machine.specs.declared.Node.{Node}
@@ -28,14 +32,17 @@ use Rattle.term.specs.declared.Relation.{Relation as RelationGiven}
 use Rattle.term.specs.declared.Relation.the-variants.{Equal, Inverse}
 use Rattle.term.specs.Code.{relationIs}
 use Rattle.term.specs.Term.{Relation, equal, inverses}
-use Rattle.program.specs.Program.{relationOf, Instruction, instructionAt, testAt, badProgram}
+use Rattle.program.specs.Program.{relationOf, Instruction, instructionAt, testAt}
 use Rattle.program.specs.Code.{relationIn, asked}
-use Rattle.program.proofs.theory.Check13.{good, good-instruction, good-test, program-good, program-bad}
-use Rattle.machine.specs.Run.{executed, registers, holds, signals, signal, runAnswer}
+use Rattle.program.proofs.theory.Check13.{right-fits, operand-fits, program-iff, program-good, program-bad}
+use Rattle.machine.specs.Run.{executed, registers, holds, signals, signal, runRows}
 use Rattle.machine.specs.Code.{nodeIn, inverseNodes, termAt, register, values, Gives, Executable, SubmissionRead, Started, Running, Testable}
 use Rattle.machine.proofs.theory.InstructionResult.{value-at}
 use Rattle.machine.proofs.theory.KeyNodes.{one-term, inverse-keys}
 use Rattle.machine.proofs.theory.StartState.{facts}
+use Rattle.submission.specs.Computed.{checks1to5}
+use Rattle.program.specs.Computed.{badProgram}
+use Rattle.machine.specs.Computed.{runAnswer}
 
 -- ---- the instructions
 pub running-none : (P : List ℕ) {s : List ℕ} {name : ℕ} {m : Machine} → Started s name m → Running s name P 0 m
@@ -45,8 +52,10 @@ running-none P w = record { holds = w .holds; used = omega (arith, w .used); few
 module _ {s P : List ℕ} {name i n : ℕ} {m : Machine} {x : Instruction} (w : SubmissionRead s) (g : badProgram s P ≡ false) (h : Running s name P i m) (l : i < n) (c : n ≡ byte P 0) (e : x ≡ instructionAt P i) where
   pub instruction-executable : Executable m x
   instruction-executable =
-      let z = good s P g in
-      let (r, a, b) = good-instruction _ _ (z .steps i (omega arith)) in
+      let z = program-iff s P .0 g in
+      let r = z .rules-right i (omega arith) in
+      let a = z .registers-right i (omega arith) .0 in
+      let b = operand-fits _ (instructionAt P i) (z .registers-right i (omega arith)) in
       record {
         sound = h .holds .sound;
         rule = rw e r;
@@ -106,9 +115,8 @@ module _ (P : List ℕ) {m : Machine} {u : Instruction} {p q : ℕ} (w : Testabl
 -- ---- the answer
 pub test-ready : (s P : List ℕ) {name : ℕ} {m : Machine} → badProgram s P ≡ false → Running s name P (byte P 0) m → Testable m (testAt P)
 test-ready s P g h =
-    let z = good s P g in
-    let (r, o, a, b) = good-test _ _ (z .test) in
-    record { sound = h .holds .sound; left = rw (h .used) a; right = rw (h .used) b; room = omega (arith, h .few, z .few) }
+    let z = program-iff s P .0 g in
+    record { sound = h .holds .sound; left = rw (h .used) (z .test-right .0); right = rw (h .used) (right-fits _ _ (testAt P) (z .test-right)); room = omega (arith, h .few, z .few) }
 
 module _ (s P : List ℕ) (name : ℕ) {rd : Reading} (e : ReadingIs s (checks1to5 s) rd) where
   pub run-stopped : {m k : ℕ} (st : Stage) (r : Answer) → rd ≡ Refused m k → checkOf st ≡ readingCheck rd → answerOf r ≡ answered (checkOf st) (done 0) →
@@ -131,3 +139,12 @@ module _ (s P : List ℕ) (name : ℕ) {rd : Reading} (e : ReadingIs s (checks1t
       pub run-signals : {l : RelationGiven} {m : Machine} {r : ℕ} → o ≡ Asks l → Running s name P (byte P 0) m → r ≡ cond (signals (values m) (testAt P)) 1 0 → done r ≡ runAnswer s name P
       unfolding runAnswer signal
       run-signals t h k = rw (reading-passes, program-good s P g t, k, h .holds .is)
+
+-- ---- Demand 1, run
+-- Run answers as rows 1 to 5, row 13 and the signal say, and nothing else: "For every program that run takes, the signal that it answers is this
+-- machine's."
+pub run-exact : (s P : List ℕ) (name : ℕ) (a : Given) → (runAnswer s name P ≡ a) ↔ Answers (runRows s P) (λ v. v ≡ signal s name P) a
+unfolding runAnswer
+run-exact s P name =
+    answers-iff (tells-then (checks1to5 s) (failsIf (badProgram s P) 13 0) (tells-1-to-5 s) (λ _. tells-if (badProgram s P) 13 0 (refutes _ (program-iff s P))))
+    (signal s name P) (λ v. v ≡ signal s name P) (λ _ v. (sym, sym))

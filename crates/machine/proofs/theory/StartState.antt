@@ -12,7 +12,7 @@ use lib.ListN.{length, getD, set, length-set, length-append}
 use borrow.Author.Count.{below-more}
 use Rattle.base.specs.Lists.{grow}
 use Rattle.base.proofs.Grow.{length-listed}
-use Rattle.term.specs.Term.{Kind, plain, public, private, Shape, atomic, compound, isAtomic, atom}
+use Rattle.term.specs.Term.{Kind, plain, public, private, Shape, atomic, compound, atom}
 use Rattle.term.specs.{Number.shapeOf, Computed.kindOf}
 use Rattle.term.specs.Code.{isUnary, builderOf, Table}
 use Rattle.term.proofs.Kind.{shape-kind}
@@ -29,6 +29,7 @@ use Rattle.machine.specs.Code.{atoms, atomHead, recordFor, nodeFor, node
 use Rattle.machine.proofs.theory.NodeRecords.{atom-record, record-node}
 use Rattle.machine.proofs.theory.StateGrowth.{decoded-alike, node-old, node-new, Fit, register-stored}
 use Rattle.machine.proofs.theory.NodeSearch.{Absent, found-gives}
+use Rattle.term.specs.Computed.{isAtomic}
 
 -- what holds of the terms, and of the claim, after checks 1 to 5
 pub facts : {s : List ℕ} → SubmissionRead s → Claimed s

@@ -7,10 +7,12 @@ use native.Mathlib.Omega.{arith}
 use lib.ListN.{length, getD, length-append, List·getD-append}
 use lib.Seq.{getD-append-seam}
 use borrow.Author.Tests.{eq-eqb, ne-eqb, le-ltb}
-use Rattle.base.specs.Lists.{any, byte}
+use Rattle.base.specs.Lists.{byte}
 use Rattle.base.proofs.First.{passed-not-any}
 use Rattle.submission.specs.Record.{entries}
-use Rattle.program.specs.Program.{Instruction, Program, instructionBytes, bytesOf, programLength, instructionAt, testAt, badInstruction, badTest, badProgram}
+use Rattle.program.specs.Program.{Instruction, Program, instructionBytes, bytesOf, programLength, instructionAt, testAt}
+use Rattle.base.specs.Computed.{any}
+use Rattle.program.specs.Computed.{badInstruction, badTest, badProgram}
 
 -- three bytes an instruction
 pub bytes-length : (is : List Instruction) → length (instructionBytes is) ≡ 3 * length is

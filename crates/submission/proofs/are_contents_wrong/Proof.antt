@@ -2,7 +2,7 @@
 use Rattle.base.proofs.TestChains.{chain, told-eqb, told-not}
 use Rattle.base.proofs.BoolLaws.{flag}
 use borrow.Author.Tests.{lt-ltb, le-ltb}
-use Rattle.submission.specs.Record.{badContents}
+use Rattle.submission.specs.Computed.{badContents}
 use borrow.Author.Needs.{needs}
 use Rattle.submission.proofs.are_contents_wrong.Statement.{statement}
 use Rattle.submission.proofs.are_contents_wrong.Tie as tie

@@ -2,7 +2,7 @@
 use Prim.Native.Nat.{_-_}
 use Rattle.base.proofs.Scan.{scan}
 use Rattle.base.proofs.First.{Passed}
-use Rattle.submission.specs.Record.{badCount}
+use Rattle.submission.specs.Computed.{badCount}
 use Rattle.submission.proofs.ContentsTests.{too-few, too-many, within}
 use Rattle.base.proofs.StageLaws.{fails-hit, passes-all}
 use Rattle.submission.proofs.check_counts.Statement.{statement}

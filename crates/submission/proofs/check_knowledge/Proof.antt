@@ -3,7 +3,7 @@ use Prim.Native.Nat.{_-_}
 use Rattle.base.proofs.Scan.{scan}
 use Rattle.base.proofs.First.{Passed}
 use Rattle.base.proofs.StageLaws.{fails-hit, passes-all}
-use Rattle.submission.specs.Check.{badKnowledge}
+use Rattle.submission.specs.Computed.{badKnowledge}
 use Rattle.submission.proofs.check_knowledge.Statement.{statement}
 use Rattle.submission.proofs.check_knowledge.Tie as tie
 

@@ -4,7 +4,7 @@ use native.Mathlib.Omega.{arith}
 use Rattle.base.proofs.Scan.{scan}
 use Rattle.base.proofs.First.{Passed, passed-none}
 use Rattle.base.proofs.StageLaws.{fails-hit, passes-all}
-use Rattle.submission.specs.Check.{badTerm}
+use Rattle.submission.specs.Computed.{badTerm}
 use Rattle.submission.proofs.TermTests.{Chaining, chaining-none, chaining-more}
 use Rattle.submission.proofs.check_terms.Statement.{statement}
 use Rattle.submission.proofs.check_terms.Tie as tie

@@ -2,7 +2,7 @@
 use borrow.Author.Tests.{not-true, not-false}
 use Rattle.base.proofs.TestChains.{chain, above-ltb, below-ltb}
 use Rattle.submission.proofs.ClaimTests.{guess-atom}
-use Rattle.submission.specs.Check.{goodClaim}
+use Rattle.submission.specs.Computed.{goodClaim}
 use borrow.Author.Needs.{needs}
 use Rattle.submission.proofs.is_claim_good.Statement.{statement}
 use Rattle.submission.proofs.is_claim_good.Tie as tie

@@ -1,7 +1,7 @@
 -- `is_entry_bad` meets its contract: the bound, then the earlier entries.
 use Rattle.base.proofs.TestChains.{chain, below-ltb, above-ltb}
 use Rattle.base.proofs.BoolLaws.{not-of-true, not-of-false}
-use Rattle.submission.specs.Check.{badKnowledge}
+use Rattle.submission.specs.Computed.{badKnowledge}
 use borrow.Author.Needs.{needs}
 use Rattle.submission.proofs.is_entry_bad.Statement.{statement}
 use Rattle.submission.proofs.is_entry_bad.Tie as tie

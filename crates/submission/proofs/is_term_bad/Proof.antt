@@ -1,7 +1,7 @@
 -- `is_term_bad` meets its contract: the shape, then the earlier records.
 use Rattle.base.proofs.TestChains.{chain}
 use Rattle.base.proofs.BoolLaws.{flag, not-of-true, not-of-false}
-use Rattle.submission.specs.Check.{badTerm}
+use Rattle.submission.specs.Computed.{badTerm}
 use borrow.Author.Needs.{needs}
 use Rattle.submission.proofs.is_term_bad.Statement.{statement}
 use Rattle.submission.proofs.is_term_bad.Tie as tie

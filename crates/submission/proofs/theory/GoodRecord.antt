@@ -1,4 +1,4 @@
--- What check 3 says of one record.
+-- What check 3 says of one record: row 3.
 use mathlib.Core.Path.{_≡_, refl, sym, ap, _∙_, subst}
 use mathlib.Core.Bool.{true, false, _&&_, cond, false≢true}
 use mathlib.Core.List.{List}
@@ -6,32 +6,26 @@ use mathlib.Core.Option.{Option, none, some}
 use Prim.Native.Nat.{ℕ, _+_, _*_, _<_}
 use native.Mathlib.Omega.{arith}
 use lib.Dec.{eqb, ltb}
-use Rattle.base.proofs.Says.{Says, says-true, says-eqb, says-ltb, says-and, says-any, denies, not-not-false, or-false}
-use Rattle.term.specs.Term.{Form, Second, absent, anything, keyFor, second, unary, Shape, atomic, compound, isKeyFor, takes}
+use Rattle.base.proofs.Says.{Says, says-true, says-eqb, says-ltb, says-and, says-or, says-not, says-any, denies, not-not-false, or-false}
+use Rattle.term.specs.Term.{Form, Second, absent, anything, keyFor, second, unary, Shape, atomic, compound, isKeyFor}
 use Rattle.term.specs.Number.{shapeOf}
 use Rattle.submission.specs.Record.{kindAt, xAt, yAt, nameAt, recordOf}
-use Rattle.submission.specs.Check.{shapeFits, sameRecord, badTerm}
-
--- what check 3 asks of y, as the second operand of record i
-abbrev pub HasSecond : List ℕ → ℕ → Second → Type 0
-HasSecond s i absent = yAt s i ≡ 0
-HasSecond s i anything = yAt s i < i
-HasSecond s i (keyFor c) = (yAt s i < i) × (isKeyFor c (shapeOf (kindAt s (yAt s i))) ≡ true)
-
--- what check 3 asks of the record i of a shape
-abbrev pub Shaped : List ℕ → ℕ → Shape → Type 0
-Shaped s i (atomic κ) = Unit {0}
-Shaped s i (compound f) = (xAt s i < i) × HasSecond s i (second f)
+use Rattle.term.specs.Computed.{takes}
+use Rattle.submission.specs.Computed.{shapeFits, sameRecord, badTerm}
+use Rattle.submission.specs.Check.{HasSecond, Shaped, BadTerm}
 
 says-second : (s : List ℕ) (i : ℕ) (o : Second) → Says (cond (unary o) (eqb (yAt s i) 0) (ltb (yAt s i) i && takes o (shapeOf (kindAt s (yAt s i))))) (HasSecond s i o)
 says-second s i absent = says-eqb _ _
 says-second s i anything = let w = says-and _ true (says-ltb (yAt s i) i) (says-true true) in (λ e. w .0 e .0, λ l. w .1 (l, refl))
 says-second s i (keyFor c) = says-and _ _ (says-ltb _ _) (says-true _)
 
-shaped : (s : List ℕ) (i : ℕ) (o : Option Shape) → shapeFits s i o ≡ true → (z : Shape) × (o ≡ some z) × Shaped s i z
-shaped s i none e = absurd (false≢true e)
-shaped s i (some (atomic κ)) e = (atomic κ, refl, tt)
-shaped s i (some (compound f)) e = (compound f, refl, says-and _ _ (says-ltb _ _) (says-second s i (second f)) .0 e)
+fits-shaped : (s : List ℕ) (i : ℕ) (z : Shape) → Says (shapeFits s i (some z)) (Shaped s i z)
+fits-shaped s i (atomic κ) = (λ e. tt, λ x. refl)
+fits-shaped s i (compound f) = says-and _ _ (says-ltb _ _) (says-second s i (second f))
+
+says-shaped : (s : List ℕ) (i : ℕ) (o : Option Shape) → Says (shapeFits s i o) ((z : Shape) × (o ≡ some z) × Shaped s i z)
+says-shaped s i none = (λ e. absurd (false≢true e), λ (z, e, f). absurd (let o : _≡_ {A = ℕ} 0 1 = cc in omega arith))
+says-shaped s i (some z) = (λ e. (z, refl, fits-shaped s i z .0 e), λ (y, e, f). let p : y ≡ z = cc in fits-shaped s i z .1 (subst (Shaped s i) p f))
 
 -- the second part of a record: y, or x again
 abbrev pub secondPart : List ℕ → ℕ → Form → ℕ
@@ -52,11 +46,17 @@ pub record Good (s : List ℕ) (i : ℕ) : Type 0 where
   pub fits : Shaped s i shape
   pub new : (j : ℕ) → j < i → kindAt s j ≡ kindAt s i → xAt s j ≡ xAt s i → yAt s j ≡ yAt s i → ⊥
 
+-- row 3
+pub says-bad-term : (s : List ℕ) (i : ℕ) → Says (badTerm s i) (BadTerm s i)
+unfolding badTerm
+says-bad-term s i =
+    says-or _ _ (says-not _ (says-shaped s i (shapeOf (kindAt s i)))) (says-any (sameRecord s i) i (λ j l. says-same s i j))
+
 pub good : (s : List ℕ) (i : ℕ) → badTerm s i ≡ false → Good s i
 unfolding badTerm
 good s i e =
     let u = or-false _ _ .0 e in
-    let z = shaped s i (shapeOf (kindAt s i)) (not-not-false _ .0 (u .0)) in
+    let z = says-shaped s i (shapeOf (kindAt s i)) .0 (not-not-false _ .0 (u .0)) in
     let n = denies _ (says-any (sameRecord s i) i (λ j l. says-same s i j)) .0 (u .1) in
     record { shape = z .0; has = z .1; fits = z .2; new = λ j l k x y. n (j, l, (k, (x, y))) }
 

@@ -3,8 +3,8 @@ use mathlib.Core.Path.{_≡_, refl}
 use mathlib.Core.List.{List, [], _∷_, map}
 use Prim.Native.Nat.{ℕ}
 use Rattle.base.specs.Lists.{first, firstFrom}
-use Rattle.base.specs.Answer.{Check, passes, fails, failsAt}
-use Rattle.submission.specs.Record.{badCount}
+use Rattle.base.specs.Computed.{Check, passes, fails, failsAt}
+use Rattle.submission.specs.Computed.{badCount}
 
 -- the four counts, in the contents' places, and what check 2 says
 pub record Limit : Type 0 where

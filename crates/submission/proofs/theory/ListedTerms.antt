@@ -11,20 +11,21 @@ use lib.Dec.{ltb}
 use borrow.Author.Tests.{ltb-false}
 use Rattle.base.proofs.Order.{lt-or-ge}
 use Rattle.base.proofs.Says.{Says, says-true, says-eqb, says-ltb, says-and, says-or, not-not-false, or-false, none-fails}
-use Rattle.term.specs.Term.{Kind, plain, public, private, otherKind, asymmetric, Form, Second, absent, anything, keyFor, second, unary, make, Term, atom, node, isKey, inverse, Match, Shape, atomic, compound, shape, isAtomic, isKeyFor, Operands}
+use Rattle.term.specs.Term.{Kind, plain, public, private, otherKind, asymmetric, Form, Second, absent, anything, keyFor, second, unary, make, Term, atom, node, isKey, inverse, Match, Shape, atomic, compound, shape, isKeyFor, Operands}
 use Rattle.term.specs.Code.{Message, Below, Table}
 use Rattle.term.specs.{Number.shapeOf, Computed.kindOf, Computed.inverseKinds}
 use Rattle.term.proofs.Kind.{kind-shape, shape-kind}
 use Rattle.term.specs.Table.{branch, message}
 use Rattle.term.proofs.Table.{decode-inj, decoded-reads}
-use Rattle.base.specs.Answer.{passes, failsIf, failsAt}
+use Rattle.term.specs.Computed.{isAtomic}
 use Rattle.base.specs.Lists.{Bytes, first}
-use Rattle.submission.specs.Record.{badCount, badContents}
+use Rattle.base.specs.Computed.{passes, failsIf, failsAt}
 use Rattle.submission.specs.{Record.terms, Record.entries, Record.steps, Record.kindAt, Record.xAt, Record.yAt, Record.nameAt, Record.entryAt, Record.guess, Record.verifying, Record.wayAt, Record.companion, Record.recordOf, Record.recordAt, Record.term, Computed.areInverse}
-use Rattle.submission.specs.Way.{Way, another-step, at-start, inverse-key, wayOf, Range, step-number, term-number, zero-only, row, inRange, claimFits}
-use Rattle.submission.specs.Check.{badTerm, badKnowledge, goodClaim, checks1to4, checks1to5}
+use Rattle.submission.specs.Way.{Way, another-step, at-start, inverse-key, wayOf, Range, step-number, term-number, zero-only, row, InRange}
+use Rattle.submission.specs.Check.{HasSecond, Shaped, ClaimFits}
+use Rattle.submission.specs.Computed.{badCount, badContents, inRange, claimFits, badTerm, badKnowledge, goodClaim, checks1to4, checks1to5}
 use Rattle.base.proofs.AnswerLaws.{if-passes, at-passes, then-passes}
-use Rattle.submission.proofs.theory.GoodRecord.{HasSecond, Shaped, secondPart, second-below, Good, good, name-bytes, same-record}
+use Rattle.submission.proofs.theory.GoodRecord.{secondPart, second-below, Good, good, name-bytes, same-record}
 
 -- the kinds of keys, and those of a key and its inverse
 abbrev Key : Kind → Type 0
@@ -217,12 +218,7 @@ form-of {s} z i f a b l e = go (z .good i l .shape) (z .good i l .has) (z .good 
         (shape-kind _ _ h ∙ ap (λ k. kindOf (compound k)) p, subst (λ k. HasSecond s i (second k)) p (g .1))
 
 -- ---- check 5
-abbrev pub InRange : List ℕ → Range → ℕ → Type 0
-InRange s step-number n = n < steps s
-InRange s term-number n = n < terms s
-InRange s zero-only n = n ≡ 0
-
-pub says-in-range : (s : List ℕ) (r : Range) (n : ℕ) → Says (inRange s r n) (InRange s r n)
+says-in-range : (s : List ℕ) (r : Range) (n : ℕ) → Says (inRange s r n) (InRange s r n)
 says-in-range s step-number n = says-ltb n (steps s)
 says-in-range s term-number n = says-ltb n (terms s)
 says-in-range s zero-only n = says-eqb n 0
@@ -238,15 +234,27 @@ pub record Claimed (s : List ℕ) : Type 0 where
   pub has-way : wayOf (wayAt s) ≡ some way
   pub in-range : InRange s (row way .companion) (companion s)
 
-atomic-shape : (o : Option Shape) → isAtomic o ≡ true → (κ : Kind) × (o ≡ some (atomic κ))
-atomic-shape none e = absurd (false≢true e)
-atomic-shape (some (atomic κ)) e = (κ, refl)
-atomic-shape (some (compound h)) e = absurd (false≢true e)
+says-atomic : (o : Option Shape) → Says (isAtomic o) ((κ : Kind) × (o ≡ some (atomic κ)))
+says-atomic none = (λ e. absurd (false≢true e), λ (κ, e). absurd (let z : _≡_ {A = ℕ} 0 1 = cc in omega arith))
+says-atomic (some (atomic κ)) = (λ e. (κ, refl), λ e. refl)
+says-atomic (some (compound h)) = (λ e. absurd (false≢true e), λ (κ, e). absurd (let z : _≡_ {A = ℕ} 0 1 = cc in omega arith))
 
-claim-in-range : (s : List ℕ) (o : Option Way) → claimFits s o ≡ true →
-    (w : Way) × (o ≡ some w) × InRange s (row w .step) (verifying s) × InRange s (row w .companion) (companion s)
-claim-in-range s none e = absurd (false≢true e)
-claim-in-range s (some w) e = let (a, b) = says-and _ _ (says-in-range s (row w .step) _) (says-in-range s (row w .companion) _) .0 e in (w, refl, a, b)
+says-ranges : (s : List ℕ) (o : Option Way) →
+    Says (claimFits s o) ((w : Way) × (o ≡ some w) × (InRange s (row w .step) (verifying s) × InRange s (row w .companion) (companion s)))
+says-ranges s none = (λ e. absurd (false≢true e), λ (w, e, r). absurd (let z : _≡_ {A = ℕ} 0 1 = cc in omega arith))
+says-ranges s (some w) =
+    let u = says-and _ _ (says-in-range s (row w .step) _) (says-in-range s (row w .companion) _) in
+    (λ e. (w, refl, u .0 e), λ (x, e, r). u .1 (let p : x ≡ w = cc in subst (λ y. InRange s (row y .step) (verifying s) × InRange s (row y .companion) (companion s)) p r))
+
+-- row 5
+pub says-claim : (s : List ℕ) → Says (goodClaim s) (ClaimFits s)
+unfolding goodClaim
+says-claim s =
+    let u = says-and _ _ (says-ltb (guess s) (terms s)) (says-and _ _ (says-atomic (shapeOf (kindAt s (guess s)))) (says-ranges s (wayOf (wayAt s)))) in (
+      λ e. let (g, ((κ, k), (w, f, (v, i)))) = u .0 e in
+          record { guess-below = g; guess-kind = κ; guess-shape = k; way = w; has-way = f; step-in-range = v; companion-in-range = i },
+      λ c. u .1 (c .guess-below, ((c .guess-kind, c .guess-shape), (c .way, c .has-way, (c .step-in-range, c .companion-in-range)))),
+    )
 
 -- in every way the step is one of the derivation
 step-below : (s : List ℕ) (w : Way) (n : ℕ) → InRange s (row w .step) n → n < steps s
@@ -255,26 +263,19 @@ step-below s at-start n l = l
 step-below s inverse-key n l = l
 
 pub claimed : (s : List ℕ) → Bytes s → checks1to5 s ≡ passes → Claimed s
-unfolding checks1to5 goodClaim
+unfolding checks1to5
 claimed s b e =
     let (r, e5) = then-passes (checks1to4 s) (failsIf (not (goodClaim s)) 5 0) .0 e in
     let z = listed s b r in
-    let (g, a, c) = says-all s .0 (not-not-false _ .0 (if-passes _ 5 0 .0 e5)) in
-    let (κ, k) = atomic-shape _ a in
-    let (w, f, v, i) = claim-in-range s _ c in
+    let c = says-claim s .0 (not-not-false _ .0 (if-passes _ 5 0 .0 e5)) in
     record {
       read = z;
-      guess-below = g;
-      guess-kind = κ;
-      guess-shape = k;
-      guess-term = term-at s (z .bytes) (z .good) (z .table) (guess s) (atomic κ) g k;
-      verifying-below = step-below s w _ v;
-      way = w;
-      has-way = f;
-      in-range = i;
+      guess-below = c .guess-below;
+      guess-kind = c .guess-kind;
+      guess-shape = c .guess-shape;
+      guess-term = term-at s (z .bytes) (z .good) (z .table) (guess s) (atomic (c .guess-kind)) (c .guess-below) (c .guess-shape);
+      verifying-below = step-below s (c .way) _ (c .step-in-range);
+      way = c .way;
+      has-way = c .has-way;
+      in-range = c .companion-in-range;
     }
-  where
-    says-all : (s : List ℕ) → Says (goodClaim s) ((guess s < terms s) × (isAtomic (shapeOf (kindAt s (guess s))) ≡ true) × (claimFits s (wayOf (wayAt s)) ≡ true))
-    says-all s =
-        let w = says-and _ _ (says-ltb (guess s) (terms s)) (says-and _ _ (says-true (isAtomic (shapeOf (kindAt s (guess s))))) (says-true (claimFits s (wayOf (wayAt s))))) in
-        (λ e. let u = w .0 e in (u .0, u .1 .0, u .1 .1), λ u. w .1 (u .0, (u .1, u .2)))

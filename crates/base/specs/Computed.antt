@@ -1,0 +1,31 @@
+-- Checks and their order, computed: that a call's checks answer as the rows of the table of verdicts say is a theorem for each call
+-- (`check-exact`, `deducible-exact`, `run-exact`).
+use Rattle.base.specs.{Words.Bool, Words.true, Words.false, Words.Option, Words.none, Words.some, Words.ℕ, Lists.first, Answer.Answer, Answer.refused}
+
+-- whether p holds at some number below n
+unfoldable pub any : (ℕ → Bool) → ℕ → Bool
+any p n = elim (first p n) [ none ↦ false | some i ↦ true ]
+
+-- what one check says: nothing, or the number and the place of a refusal
+pub data Check : Type 0 where
+  passes : Check
+  fails : ℕ → ℕ → Check
+
+-- the check of this number fails at the first place found
+abbrev pub failsAt : ℕ → Option ℕ → Check
+failsAt number none = passes
+failsAt number (some place) = fails number place
+
+abbrev pub failsIf : Bool → ℕ → ℕ → Check
+failsIf true number place = fails number place
+failsIf false number place = passes
+
+-- the earlier check, and the later one where it passes
+abbrev pub andThen : Check → Check → Check
+andThen passes d = d
+andThen (fails number place) d = fails number place
+
+-- the refusal of the checks, or the answer where all pass
+abbrev pub answered : Check → Answer → Answer
+answered passes a = a
+answered (fails number place) a = refused number place
