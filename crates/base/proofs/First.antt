@@ -7,7 +7,7 @@ use Prim.Native.Nat.{ℕ, zero, suc, _+_, _≤_, _<_}
 use native.Mathlib.Nat.{eq-or-lt-of-le, not-suc-le-zero}
 use native.Mathlib.Omega.{arith}
 use borrow.Author.Count.{below-more}
-use Rattle.base.specs.{Lists.firstFrom, Lists.first, Code.isSome, Computed.any}
+use Rattle.base.specs.{Words.firstFrom, Words.first, Code.isSome, Computed.any}
 use Rattle.base.proofs.Order.{lt-or-ge}
 
 -- what a loop has shown that looks for it and has come to i

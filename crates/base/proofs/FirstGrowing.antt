@@ -5,7 +5,7 @@ use mathlib.Core.Option.{Option, none, some}
 use Prim.Native.Nat.{ℕ, _+_, _≤_}
 use native.Mathlib.Omega.{arith}
 use borrow.Author.Count.{below-more}
-use Rattle.base.specs.{Lists.first, Code.isSome, Computed.any}
+use Rattle.base.specs.{Words.first, Code.isSome, Computed.any}
 use Rattle.base.proofs.First.{passed-hit, passed-all, first-none, first-some}
 
 module _ (p : ℕ → Bool) (n : ℕ) where

@@ -6,7 +6,7 @@ use native.Mathlib.Nat.{add-zero, add-suc, zero-add}
 use native.Mathlib.Omega.{arith}
 use lib.ListN.{length, getD, length-append, List·getD-append}
 use lib.Seq.{getD-append-seam}
-use Rattle.base.specs.Lists.{grow, listed}
+use Rattle.base.specs.Words.{grow, listed}
 
 module _ {A : Type 0} (s : List A) (f : List A → ℕ → A) where
   pub length-grow : (i : ℕ) → length (grow s f i) ≡ length s + i

@@ -7,8 +7,8 @@ use mathlib.Core.List.{List, [], _∷_, _++_}
 use mathlib.Core.Option.{Option, none, some}
 use Prim.Native.Nat.{ℕ, _<_, _≤_}
 use native.Mathlib.Omega.{arith}
-use Rattle.base.specs.Lists.{first}
-use Rattle.base.specs.Answer.{Answer, done, refused, rowAt, rowAmong, First, Clear, Refuses, Answers}
+use Rattle.base.specs.Words.{first}
+use Rattle.base.specs.Answer.{Answer, done, refused, numbered, First, Clear, Refuses, Answers}
 use Rattle.base.specs.Computed.{Check, passes, fails, failsAt, failsIf, andThen, answered}
 use Rattle.base.proofs.Order.{lt-or-ge}
 use Rattle.base.proofs.First.{first-none, first-some}
@@ -65,24 +65,24 @@ module _ {c : Check} {rows : List (ℕ → ℕ → Type 0)} (t : Tells c rows) w
       (λ e. fails-iff n p .0 (f e), λ r. g (fails-iff n p .1 r))
 
 -- ---- one check alone
-pub tells-if : {A : Type 0} (b : Bool) (number place : ℕ) → Says b A → Tells (failsIf b number place) (rowAt number place A ∷ [])
+pub tells-if : {A : Type 0} (b : Bool) (number place : ℕ) → Says b A → Tells (failsIf b number place) (numbered number (λ p. (p ≡ place) × A) ∷ [])
 tells-if {A} true number place s = record {
-  refuses = λ n p e. inl (record { holds = (cc, cc, s .0 refl); lowest = λ m q (f, g, w). inr (cc, (let z : n ≡ number = cc in omega arith)) });
+  refuses = λ n p e. inl (record { holds = (cc, (cc, s .0 refl)); lowest = λ m q (f, (g, w)). inr (cc, (let z : n ≡ number = cc in omega arith)) });
   clear = fails-not-passes;
 }
 tells-if {A} false number place s = record {
   refuses = λ n p e. fails-not-passes (sym e);
-  clear = λ e. (λ m q (f, g, w). false≢true (s .1 w), tt);
+  clear = λ e. (λ m q (f, (g, w)). false≢true (s .1 w), tt);
 }
 
 pub tells-at : {A : ℕ → Type 0} (number : ℕ) (t : ℕ → Bool) (bound : ℕ) → ((i : ℕ) → i < bound → Says (t i) (A i)) →
-    Tells (failsAt number (first t bound)) (rowAmong number bound A ∷ [])
+    Tells (failsAt number (first t bound)) (numbered number (λ i. (i < bound) × A i) ∷ [])
 tells-at {A} number t bound s = go (first t bound) refl
   where
-    go : (o : Option ℕ) → first t bound ≡ o → Tells (failsAt number o) (rowAmong number bound A ∷ [])
+    go : (o : Option ℕ) → first t bound ≡ o → Tells (failsAt number o) (numbered number (λ i. (i < bound) × A i) ∷ [])
     go none f = record {
       refuses = λ n p e. fails-not-passes (sym e);
-      clear = λ e. (λ m q (g, l, w). true≢false (sym (s q l .1 w) ∙ first-none t bound f q l), tt);
+      clear = λ e. (λ m q (g, (l, w)). true≢false (sym (s q l .1 w) ∙ first-none t bound f q l), tt);
     }
     go (some i) f = record {
       refuses = λ n p e.
@@ -90,8 +90,8 @@ tells-at {A} number t bound s = go (first t bound) refl
           let x : n ≡ number = cc in
           let y : i ≡ p = cc in
           inl (record {
-            holds = (x, omega arith, rw (← y) (s i l .0 h));
-            lowest = λ m q (g, b, w).
+            holds = (x, (omega arith, rw (← y) (s i l .0 h)));
+            lowest = λ m q (g, (b, w)).
                 ⊎-elim (λ z. absurd (true≢false (sym (s q b .1 w) ∙ k q z))) (λ z. ⊎-elim (λ u. inl (omega arith)) (λ u. inr (omega arith, omega arith)) (lt-or-ge i q)) (lt-or-ge q i);
           });
       clear = fails-not-passes;

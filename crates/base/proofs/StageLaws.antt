@@ -5,7 +5,7 @@ use mathlib.Core.List.{List}
 use Prim.Native.Nat.{ℕ, _<_, _≤_}
 use mir.Syntax.{w8}
 use mir.Val.{Fits}
-use Rattle.base.specs.Lists.{first, byte, Bytes}
+use Rattle.base.specs.Words.{first, byte, Bytes}
 use Rattle.base.proofs.First.{Passed, passed-hit, passed-all}
 use Rattle.base.specs.declared.Stage.{Stage}
 use Rattle.base.specs.declared.Stage.the-variants.{Refused}

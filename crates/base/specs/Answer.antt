@@ -1,5 +1,6 @@
--- What a call answers and leaves on its page, and what the table of verdicts and its order mean: document 01, 'Verdicts'.
-use Rattle.base.specs.Words.{_≡_, _⊎_, List, [], _∷_, _++_, ℕ, _<_, _≤_, length, drop}
+-- What a call answers, promises and leaves on its page, and what the table of verdicts and its order mean: document 01, 'Verdicts'.
+use Rattle.base.specs.declared.Answer.the-variants as given
+use Rattle.base.specs.{declared.Answer.Answer as AnswerGiven, Words._≡_, Words._⊎_, Words.List, Words.[], Words._∷_, Words._++_, Words.ℕ, Words._<_, Words._≤_, Words.length, Words.drop}
 
 -- "An acceptance carries N"; deducible's yes and no are 1 and 0, and so is the signal. "Every refusal carries number and place."
 pub data Answer : Type 0 where
@@ -11,19 +12,21 @@ abbrev pub pageAfter : Answer → List ℕ → List ℕ → List ℕ
 pageAfter (done n) bytes page = bytes ++ drop (length bytes) page
 pageAfter (refused number place) bytes page = page
 
--- a row of the table, with what it says of its number and its place: "no., when, place". This one has a single place,
-abbrev pub rowAt : ℕ → ℕ → Type 0 → ℕ → ℕ → Type 0
-rowAt number place When n p = (n ≡ number) × (p ≡ place) × When
+-- the answer that a call's enum stands for
+abbrev pub answerOf : AnswerGiven → Answer
+answerOf (given.Done n) = done n
+answerOf (given.Refused number place) = refused number place
 
--- and this one names a place below a bound
-abbrev pub rowAmong : ℕ → ℕ → (ℕ → Type 0) → ℕ → ℕ → Type 0
-rowAmong number bound When n p = (n ≡ number) × (p < bound) × When p
+-- a call that writes a page: what it returned says its answer a, and where that is done the bytes written stand on the page
+pub record Writes (Says : Answer → Type 0) (a : Answer) (written page page′ : List ℕ) : Type 0 where
+  pub answer : Says a
+  pub bytes : page′ ≡ pageAfter a written page
 
--- two rows that "are tried together, step by step"
-abbrev pub together : (ℕ → ℕ → Type 0) → (ℕ → ℕ → Type 0) → ℕ → ℕ → Type 0
-together Row Row′ n p = Row n p ⊎ Row′ n p
+-- a row of the table: its number, and what it says of its place
+abbrev pub numbered : ℕ → (ℕ → Type 0) → ℕ → ℕ → Type 0
+numbered number When n p = (n ≡ number) × When p
 
--- the first that holds: at the lowest place, and there the lowest number
+-- a row, or rows "tried together, step by step", hold first at n and p: at the lowest place, and there with the lowest number
 pub record First (Row : ℕ → ℕ → Type 0) (n p : ℕ) : Type 0 where
   pub holds : Row n p
   pub lowest : (m q : ℕ) → Row m q → (p < q) ⊎ ((p ≡ q) × (n ≤ m))

@@ -1,6 +1,4 @@
 pub mod Answer
-pub mod Calls
 pub mod Code
 pub mod Computed
-pub mod Lists
 pub mod Words

@@ -3,10 +3,9 @@
 // Promises: every function is total, and its answer is what the definitions of specs/ give.
 ghost use mathlib.Core.Path.{_≡_};
 ghost use Prim.Native.Nat.{_+_, _*_, _<_};
-ghost use Rattle.base.specs.Answer.{done};
-ghost use Rattle.base.specs.Lists.{byte as byteAt};
+ghost use Rattle.base.specs.Answer.{done, answerOf};
+ghost use Rattle.base.specs.Words.{byte as byteAt};
 ghost use Rattle.base.specs.Code.{checkOf};
-ghost use Rattle.base.specs.Calls.{answerOf};
 ghost use Rattle.base.specs.Computed.{answered};
 
 // What a check answers: go on, or the refusal's number and place.

@@ -4,8 +4,7 @@ use mathlib.Core.List.{List}
 use Prim.Native.Nat.{ℕ, _+_, _*_}
 use Rattle.base.specs.declared.Answer.{Answer as AnswerGiven}
 use Rattle.base.specs.declared.Answer.the-variants as given
-use Rattle.base.specs.Calls.{answerOf}
-use Rattle.base.specs.Answer.{Answer}
+use Rattle.base.specs.Answer.{Answer, answerOf}
 use Rattle.conditions.specs.declared.Verdict.{Verdict}
 use Rattle.conditions.specs.Calls.{verdictAnswer, Checked}
 use Rattle.checker.specs.Calls.{encoded, Encoded}

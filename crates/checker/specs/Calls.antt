@@ -1,10 +1,9 @@
 -- What the calls promise that stand in this crate: those for C, and `write_verdict`.
-use Rattle.base.specs.{Words._≡_, Words.List, Words.ℕ, Words._+_, Words._*_, Words._≤_, Words.length, Words.take, Words.replicate, Answer.Answer, Answer.done, Answer.refused, Calls.Writes, Answer.pageAfter}
+use Rattle.base.specs.{Words._≡_, Words.List, Words.ℕ, Words._+_, Words._*_, Words._≤_, Words.length, Words.take, Words.replicate, Answer.Answer, Answer.done, Answer.refused, Answer.Writes, Answer.pageAfter}
 use Rattle.submission.specs.Record.{entries}
-use Rattle.text.specs.{Calls.Puts, Text.answerText}
+use Rattle.text.specs.{Text.Puts, Text.answerText}
 use Rattle.program.specs.Program.{bytesOf}
-use Rattle.conditions.specs.Check.{program}
-use Rattle.conditions.specs.Computed.{checkAnswer}
+use Rattle.conditions.specs.{Calls.program, Computed.checkAnswer}
 
 -- an answer as one number for C: a refusal is its number and its place, 16 bits wide; what is done is its value
 abbrev pub encoded : Answer → ℕ

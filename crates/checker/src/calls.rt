@@ -1,7 +1,7 @@
 // The calls for C: an answer is one number. A refusal is number * 65536 + place; what is done is its value.
 use base::Answer;
 ghost use mathlib.Core.Path.{_≡_};
-ghost use Rattle.base.specs.Calls.{answerOf};
+ghost use Rattle.base.specs.Answer.{answerOf};
 ghost use Rattle.deduction.specs.Computed.{deducibleAnswer};
 ghost use Rattle.machine.specs.Computed.{runAnswer};
 ghost use Rattle.checker.specs.Calls.{encoded, Encoded};

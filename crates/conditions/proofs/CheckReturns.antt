@@ -13,7 +13,7 @@ use Rattle.submission.specs.Code.{IsClaim, readingCheck, ReadingIs, Limited}
 use Rattle.base.specs.declared.Stage.{Stage}
 use Rattle.base.specs.declared.Stage.the-variants as stage
 use Rattle.base.specs.Answer.{Answer, done, refused}
-use Rattle.base.specs.Lists.{byte}
+use Rattle.base.specs.Words.{byte}
 use Rattle.submission.specs.Record.{steps}
 use Rattle.base.specs.Computed.{Check, passes, fails, andThen, answered, failsIf}
 use Rattle.base.specs.Code.{checkOf}
@@ -21,13 +21,12 @@ use Rattle.base.proofs.AnswerLaws.{if-passes}
 use Rattle.base.proofs.StageLaws.{bytes, stage-passes}
 use Rattle.submission.proofs.PassedChecks.{body-passes, limited}
 use Rattle.derivation.specs.declared.StepsAnswer.{StepsAnswer}
-use Rattle.derivation.specs.Register.{written}
+use Rattle.derivation.specs.Step.{written}
 use Rattle.derivation.specs.Code.{Registered, StepsChecked}
 use Rattle.program.specs.Program.{bytesOf, programLength}
 use Rattle.conditions.specs.declared.Verdict.{Verdict}
 use Rattle.conditions.specs.declared.Verdict.the-variants.{Accepted, Refused}
-use Rattle.conditions.specs.Check.{program}
-use Rattle.conditions.specs.Calls.{verdictAnswer, Checked}
+use Rattle.conditions.specs.Calls.{verdictAnswer, Checked, program}
 use Rattle.conditions.specs.Code.{Founded, Acceptable}
 use Rattle.conditions.proofs.theory.ProgramRun.{program-bytes}
 use lib.Dec.{ltb}

@@ -8,7 +8,7 @@ use Rattle.submission.specs.declared.Claim.{Claim}
 use Rattle.base.specs.Computed.{fails, failsIf}
 use Rattle.submission.specs.Code.{Limited, IsClaim}
 use Rattle.submission.specs.Record.{terms, steps, verifying, wayAt, secondAt}
-use Rattle.submission.specs.Way.{wayOf}
+use Rattle.submission.specs.Check.{wayOf}
 use Rattle.submission.specs.Computed.{checks1to5}
 use Rattle.base.proofs.AnswerLaws.{then-passes}
 use Rattle.submission.proofs.PassedChecks.{limited, body-passes}
@@ -23,7 +23,7 @@ use Rattle.conditions.specs.Computed.{reachable, hasSecondWay, checks1to
 use Rattle.derivation.specs.Computed.{checkSteps}
 use Rattle.conditions.specs.Code.{Founded, Acceptable}
 use Rattle.conditions.proofs.theory.Acceptance.{pass-8-to-10}
-use Rattle.base.specs.Lists.{first}
+use Rattle.base.specs.Words.{first}
 
 -- the second premise of step i, read off its record
 pub second-is : {s : List ℕ} {i r : ℕ} {a : Step} → IsStep s i a → r ≡ cond (hasOne (a .rule)) (a .p) (a .q) → r ≡ secondAt s i

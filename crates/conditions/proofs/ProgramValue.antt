@@ -13,13 +13,13 @@ use Rattle.submission.specs.{Record.steps, Record.pAt, Record.qAt, Record.concl
 use Rattle.submission.specs.declared.Row.{Row as RowRead}
 use Rattle.submission.specs.declared.Operand.{Operand as OperandRead}
 use Rattle.submission.specs.declared.Operand.the-variants.{VerifyingResult, CompanionResult, LowestConclusion, LowestCompanion}
-use Rattle.submission.specs.Way.{Way, another-step, at-start, inverse-key, wayOf, row}
+use Rattle.submission.specs.Check.{Way, another-step, at-start, inverse-key, wayOf, row}
 use Rattle.submission.specs.Code.{wayIs, operandIs, rowIs, IsClaim}
 use Rattle.term.specs.Code.{relationIs}
 use Rattle.program.specs.Program.{rowOf, bytesOf, programLength}
 use Rattle.derivation.specs.declared.Step.{Step}
 use Rattle.derivation.specs.declared.Registers.{Registers}
-use Rattle.derivation.specs.{Register.written, Computed.every, Computed.isKnown}
+use Rattle.derivation.specs.{Step.written, Computed.every, Computed.isKnown}
 use Rattle.submission.specs.Record.{secondAt}
 use Rattle.derivation.specs.Computed.{unfounded}
 use Rattle.derivation.specs.Code.{IsStep, Registered}
@@ -30,7 +30,7 @@ use Rattle.program.specs.declared.Test.{Test as TestRead}
 use Rattle.program.specs.declared.Program.{Program as ProgramRead}
 use Rattle.program.specs.Code.{instructionIn, testIn, programIn}
 use Rattle.program.proofs.theory.Value.{Holds, holds-more, holds-all, held-count}
-use Rattle.conditions.specs.Check.{lowest, named, instruction, program, testFor}
+use Rattle.conditions.specs.Calls.{lowest, named, instruction, program, testFor}
 use Rattle.conditions.specs.Code.{Acceptable, Held}
 use Rattle.conditions.proofs.PassedFacts.{second-is, founded-claimed, acceptable-founded, acceptable-limited, second-way}
 use Rattle.conditions.proofs.theory.ProgramRun.{program-steps}

@@ -9,7 +9,7 @@ use native.Mathlib.Omega.{arith}
 use lib.Dec.{eqb, ltb}
 use lib.ListN.{getD}
 use borrow.Author.Tests.{eq-eqb, ne-eqb, lt-ltb, le-ltb}
-use Rattle.base.specs.Lists.{first}
+use Rattle.base.specs.Words.{first}
 use Rattle.base.proofs.First.{first-none, first-some, passed-any, passed-not-any}
 use Rattle.base.proofs.Order.{lt-or-ge}
 use Rattle.term.specs.Number.{hasOne}
@@ -17,10 +17,10 @@ use Rattle.submission.specs.declared.Claim.{Claim}
 use Rattle.submission.specs.Code.{Limited, IsClaim}
 use Rattle.submission.specs.{Record.entries, Record.steps, Record.pAt, Record.wayAt, Record.companion, Computed.areInverse}
 use Rattle.submission.specs.declared.Way.the-variants.{AnotherStep, AtStart, InverseKey}
-use Rattle.submission.specs.Way.{wayOf}
+use Rattle.submission.specs.Check.{wayOf}
 use Rattle.derivation.specs.declared.Step.{Step}
 use Rattle.derivation.specs.declared.Registers.{Registers}
-use Rattle.derivation.specs.{Register.written, Computed.isKnown}
+use Rattle.derivation.specs.{Step.written, Computed.isKnown}
 use Rattle.submission.specs.Record.{secondAt}
 use Rattle.derivation.specs.Code.{IsStep, Registered, orNone}
 use Rattle.conditions.specs.Computed.{isPremise, samePremises, hasSecondWay}

@@ -5,7 +5,7 @@ use mathlib.Core.List.{List}
 use Prim.Native.Nat.{ℕ}
 use Rattle.submission.specs.declared.Claim.{Claim}
 use Rattle.submission.specs.declared.Row.{Row as RowRead}
-use Rattle.submission.specs.Way.{row}
+use Rattle.submission.specs.Check.{row}
 use Rattle.submission.specs.Code.{wayIs, rowIs, IsClaim}
 use Rattle.derivation.specs.declared.Step.{Step}
 use Rattle.derivation.specs.Code.{IsStep}

@@ -1,10 +1,11 @@
 -- What the code's tests and requirements mean in document 01's terms.
-use mathlib.Core.{Path._≡_, Bool.Bool, Bool.true, Bool._&&_, Bool._||_, Bool.not, List.List}
+use mathlib.Core.{Path._≡_, Logic._⊎_, Logic._↔_, Bool.Bool, Bool.true, Bool._&&_, Bool._||_, Bool.not, List.List}
 use Prim.Native.Nat.{ℕ, _<_}
 use lib.Dec.{eqb}
-use Rattle.base.specs.{Computed.passes, Lists.Bytes}
-use Rattle.submission.specs.{Record.steps, Record.ruleAt, Record.conclusionAt, Record.verifying, Record.companion, Way.Operand, Way.verifying-result, Way.companion-result, Way.lowest-conclusion, Way.lowest-companion, Computed.checks1to5}
-use Rattle.derivation.specs.{Computed.isKnown, Computed.checkSteps}
+use Rattle.base.specs.{Computed.passes, Words.Bytes}
+use Rattle.submission.specs.{Record.steps, Record.ruleAt, Record.conclusionAt, Record.verifying, Record.companion, Check.Operand, Check.verifying-result, Check.companion-result, Check.lowest-conclusion, Check.lowest-companion, Computed.checks1to5}
+use Rattle.term.specs.Term.{Term}
+use Rattle.derivation.specs.{Computed.isKnown, Computed.checkSteps, Step.rule, Step.Premise}
 use Rattle.conditions.specs.{Computed.samePremises, Computed.checks1to10}
 
 -- bytes that passed checks 1 to 7
@@ -29,3 +30,7 @@ Held s verifying-result = verifying s < steps s
 Held s companion-result = companion s < steps s
 Held s lowest-conclusion = isKnown s (steps s) (conclusionAt s (verifying s)) ≡ true
 Held s lowest-companion = isKnown s (steps s) (companion s) ≡ true
+
+-- "with another rule or another premise set"
+abbrev pub Differs : List ℕ → ℕ → ℕ → Type 0
+Differs s i j = (rule s i ≡ rule s j → ⊥) ⊎ (((x : Term) → Premise s i x ↔ Premise s j x) → ⊥)

@@ -1,8 +1,7 @@
--- The five conditions, and the rows of the table of verdicts that checking tries, as propositions about terms: document 01, 'The five conditions'
--- and 'Verdicts'. Nothing here is computed.
-use Rattle.base.specs.{Words._≡_, Words._⊎_, Words._↔_, Words.List, Words.[], Words._∷_, Words._++_, Words.Option, Words.none, Words.some, Words.ℕ, Words._<_, Answer.rowAt, Answer.rowAmong, Answer.Clear}
+-- The five conditions, and the rows that checking tries, as propositions about terms: document 01, 'The five conditions' and 'Verdicts'.
+use Rattle.base.specs.{Words._≡_, Words._⊎_, Words._↔_, Words.List, Words.[], Words._∷_, Words._++_, Words.Option, Words.none, Words.some, Words.ℕ, Words._<_, Answer.numbered, Answer.Clear}
 use Rattle.term.specs.{Term.Term, Term.isKey, Term.inverse, Step.Deducible, Step.Undoes}
-use Rattle.submission.specs.{Record.steps, Record.guess, Record.verifying, Record.wayAt, Record.companion, Record.term, Record.InKnowledge, Way.Way, Way.another-step, Way.at-start, Way.inverse-key, Way.wayOf, Check.rows1to5}
+use Rattle.submission.specs.{Record.steps, Record.guess, Record.verifying, Record.wayAt, Record.companion, Record.term, Record.InKnowledge, Check.Way, Check.another-step, Check.at-start, Check.inverse-key, Check.wayOf, Check.rows1to5}
 use Rattle.derivation.specs.Step.{rule, firstPremise, secondPremise, concluded, Premise, StepFits, Known, rows6and7}
 use Rattle.program.specs.Program.{programLength}
 
@@ -11,29 +10,24 @@ pub record WellFormed (s : List ℕ) : Type 0 where
   pub read : Clear (rows1to5 s)
   pub shaped : (i : ℕ) → i < steps s → StepFits s i
 
--- "with another rule or another premise set"
-abbrev pub Differs : List ℕ → ℕ → ℕ → Type 0
-Differs s i j = (rule s i ≡ rule s j → ⊥) ⊎ (((x : Term) → Premise s i x ↔ Premise s j x) → ⊥)
-
 -- 4. "Way a: the companion is a step that also concludes v, with another rule or another premise set.
 -- Way b: v is in the knowledge or is the guess; companion 0.
 -- Way c: v is a key and the companion is the term number of its inverse, known after the last step."
 abbrev pub SecondWay : List ℕ → Option Way → Type 0
 SecondWay s none = ⊥
 SecondWay s (some another-step) =
-    (companion s < steps s) × (concluded s (companion s) ≡ concluded s (verifying s)) × Differs s (verifying s) (companion s)
+    (companion s < steps s) × (concluded s (companion s) ≡ concluded s (verifying s))
+    × ((rule s (verifying s) ≡ rule s (companion s) → ⊥) ⊎ (((x : Term) → Premise s (verifying s) x ↔ Premise s (companion s) x) → ⊥))
 SecondWay s (some at-start) =
     (companion s ≡ 0) × (InKnowledge s (concluded s (verifying s)) ⊎ (concluded s (verifying s) ≡ term s (guess s)))
 SecondWay s (some inverse-key) =
     isKey (concluded s (verifying s)) × (term s (companion s) ≡ inverse (concluded s (verifying s))) × Known s (steps s) (term s (companion s))
 
--- step j undoes step i
-abbrev pub UndoneBy : List ℕ → ℕ → ℕ → Type 0
-UndoneBy s j i = Undoes (rule s j) (firstPremise s j) (concluded s j) (rule s i) (firstPremise s i) (concluded s i)
-
--- step i "is undone by the verifying step", or "in way a by the companion"
+-- step i "is undone by the verifying step" or "in way a by the companion": by step j
 abbrev pub Undone : List ℕ → ℕ → Type 0
-Undone s i = UndoneBy s (verifying s) i ⊎ ((wayOf (wayAt s) ≡ some another-step) × UndoneBy s (companion s) i)
+Undone s i =
+    (j : ℕ) × ((j ≡ verifying s) ⊎ ((wayOf (wayAt s) ≡ some another-step) × (j ≡ companion s)))
+    × Undoes (rule s j) (firstPremise s j) (concluded s j) (rule s i) (firstPremise s i) (concluded s i)
 
 pub record FiveConditions (s : List ℕ) : Type 0 where
   -- 1. "Every step is founded."
@@ -46,14 +40,13 @@ pub record FiveConditions (s : List ℕ) : Type 0 where
   -- 5. "No step anywhere in the derivation is undone by the verifying step, nor in way a by the companion."
   pub kept : (i : ℕ) → i < steps s → Undone s i → ⊥
 
--- "Order: as numbered": 8 reachable, 9 no second way and 10 undone are conditions 3, 4 and 5 broken; 11 page is "page under 3N+4 bytes", room being
--- the page's length
+-- "Order: as numbered": 8 reachable, 9 no second way, 10 undone are conditions 3, 4, 5 broken; 11 page, "page under 3N+4 bytes", has room for its length
 abbrev pub checkRows : List ℕ → ℕ → List (ℕ → ℕ → Type 0)
 checkRows s room =
     rows1to5 s
     ++ rows6and7 s
-    ∷ rowAt 8 (verifying s) ((x : Term) → Premise s (verifying s) x → Deducible (InKnowledge s) x)
-    ∷ rowAt 9 (verifying s) (SecondWay s (wayOf (wayAt s)) → ⊥)
-    ∷ rowAmong 10 (steps s) (Undone s)
-    ∷ rowAt 11 (programLength (steps s)) (room < programLength (steps s))
+    ∷ numbered 8 (λ p. (p ≡ verifying s) × ((x : Term) → Premise s (verifying s) x → Deducible (InKnowledge s) x))
+    ∷ numbered 9 (λ p. (p ≡ verifying s) × (SecondWay s (wayOf (wayAt s)) → ⊥))
+    ∷ numbered 10 (λ i. (i < steps s) × Undone s i)
+    ∷ numbered 11 (λ p. (p ≡ programLength (steps s)) × (room < programLength (steps s)))
     ∷ []

@@ -1,11 +1,11 @@
 -- Demands 1 to 3. What the definitions promise; the contracts of the calls say that the code answers what they give.
-use Rattle.base.specs.{Words._≡_, Words._↔_, Words.List, Words.ℕ, Words._≤_, Words.length, Words.take, Words.drop, Lists.Bytes, Answer.Answer, Answer.done, Answer.pageAfter, Answer.Answers}
+use Rattle.base.specs.{Words._≡_, Words._↔_, Words.List, Words.ℕ, Words._≤_, Words.length, Words.take, Words.drop, Words.Bytes, Answer.Answer, Answer.done, Answer.pageAfter, Answer.Answers}
 use Rattle.term.specs.Term.{Fresh}
 use Rattle.submission.specs.Record.{steps, guess, nameAt, InKnowledge}
 use Rattle.deduction.specs.{Deduce.deducibleRows, Deduce.DeducibleValue, Computed.deducibleAnswer}
 use Rattle.program.specs.Program.{bytesOf, programLength}
 use Rattle.machine.specs.{Run.guessed, Run.signal, Run.runRows, Computed.runAnswer}
-use Rattle.conditions.specs.{Condition.WellFormed, Condition.FiveConditions, Condition.checkRows, Check.program, Computed.checkAnswer}
+use Rattle.conditions.specs.{Condition.WellFormed, Condition.FiveConditions, Condition.checkRows, Calls.program, Computed.checkAnswer}
 
 -- Demand 1: "each fault is refused by its number". What each call answers, for every answer: the refusal that the rows and their order give,
 -- or else the count of steps, whether the term is deducible, the signal.
@@ -14,15 +14,14 @@ pub record Demand1 : Type 0 where
   pub deducible : (s : List ℕ) → Bytes s → (n : ℕ) (a : Answer) → (deducibleAnswer s n ≡ a) ↔ Answers (deducibleRows s n) (DeducibleValue s n) a
   pub run : (s P : List ℕ) (name : ℕ) (a : Answer) → (runAnswer s name P ≡ a) ↔ Answers (runRows s P) (λ v. v ≡ signal s name P) a
 
--- Demand 2: "A submission is accepted exactly when it is well formed, meets the five conditions of document 01 and has a page long
--- enough", and the acceptance carries N.
+-- Demand 2: "A submission is accepted exactly when it is well formed, meets the five conditions of document 01 and has a page long enough", and the
+-- acceptance carries N. From right to left it is demand 3's last sentence: "And every submission that is well formed .. is accepted."
 abbrev pub Demand2 : Type 0
 Demand2 =
     (s : List ℕ) → Bytes s → (room n : ℕ) →
     (checkAnswer s room ≡ done n) ↔ ((n ≡ steps s) × WellFormed s × FiveConditions s × (programLength (steps s) ≤ room))
 
--- A wrong guess: "all other atoms of the guess's kind, except one that is part of a message in the knowledge or the inverse of a key that
--- is such a part": the name is another one, and its atom is fresh
+-- "all other atoms of the guess's kind, except one that is part of a message in the knowledge or the inverse of a key that is such a part"
 pub record WrongGuess (s : List ℕ) (name : ℕ) : Type 0 where
   pub other : name ≡ nameAt s (guess s) → ⊥
   pub fresh : Fresh (InKnowledge s) (guessed s name)
@@ -38,13 +37,8 @@ pub record KeptPromise (s page : List ℕ) (n : ℕ) (page′ : List ℕ) : Type
   -- or that of a wrong guess, with one and the same program for all names."
   pub wrong : (name : ℕ) → WrongGuess s name → runAnswer s name (take (programLength n) page′) ≡ done 0
 
--- Demand 3: every acceptance keeps the promise,
+-- Demand 3: every acceptance keeps the promise
 abbrev pub Demand3 : Type 0
 Demand3 =
     (s page : List ℕ) → Bytes s → (n : ℕ) → checkAnswer s (length page) ≡ done n →
     KeptPromise s page n (pageAfter (checkAnswer s (length page)) (bytesOf (program s)) page)
-
--- "And every submission that is well formed and meets the five conditions, with page enough, is accepted."
-abbrev pub EveryGoodAccepted : Type 0
-EveryGoodAccepted =
-    (s : List ℕ) → Bytes s → (room : ℕ) → WellFormed s → FiveConditions s → programLength (steps s) ≤ room → checkAnswer s room ≡ done (steps s)

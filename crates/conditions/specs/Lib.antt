@@ -1,5 +1,4 @@
 pub mod Calls
-pub mod Check
 pub mod Code
 pub mod Computed
 pub mod Condition

@@ -10,15 +10,15 @@ ghost use mathlib.Core.Bool.{_&&_, not};
 ghost use Rattle.submission.specs.Code.{Limited, IsClaim};
 ghost use Rattle.submission.specs.Record.{steps, pAt, wayAt, verifying, secondAt};
 ghost use Rattle.submission.specs.Computed.{areInverse};
-ghost use Rattle.submission.specs.Way.{wayOf};
+ghost use Rattle.submission.specs.Check.{wayOf};
 ghost use Rattle.base.specs.Computed.{failsIf, failsAt};
 ghost use Rattle.base.specs.Code.{checkOf};
-ghost use Rattle.derivation.specs.Register.{written};
+ghost use Rattle.derivation.specs.Step.{written};
 ghost use Rattle.derivation.specs.Computed.{isKnown};
 ghost use Rattle.derivation.specs.Code.{Registered};
 ghost use Rattle.conditions.specs.Computed.{reachable, isPremise, samePremises, hasSecondWay, dismantles as dismantlesBy, undoesStep, undone, checks8to10};
 ghost use Rattle.conditions.specs.Code.{Founded, otherWay};
-ghost use Rattle.base.specs.Lists.{first};
+ghost use Rattle.base.specs.Words.{first};
 
 // Condition 3 broken: both premises of the verifying step are deducible from the knowledge, without the guess.
 fn is_reachable(s: &[u8], claim: Claim) -> bool

@@ -12,13 +12,13 @@ ghost use Prim.Native.Nat.{_≤_, _<_};
 ghost use lib.ListN.{length, drop};
 ghost use Rattle.submission.specs.Code.{Limited, operandIs, IsClaim};
 ghost use Rattle.submission.specs.Record.{steps, conclusionAt, wayAt};
-ghost use Rattle.derivation.specs.Register.{written};
+ghost use Rattle.derivation.specs.Step.{written};
 ghost use Rattle.derivation.specs.Code.{Registered};
 ghost use Rattle.program.specs.Program.{bytesOf, programLength};
 ghost use Rattle.program.specs.Code.{instructionIn, testIn, programIn};
-ghost use Rattle.conditions.specs.Check.{instruction, named as namedBy, program, testFor};
+ghost use Rattle.conditions.specs.Calls.{instruction, named as namedBy, program, testFor};
 ghost use Rattle.conditions.specs.Code.{Acceptable, Held};
-ghost use Rattle.submission.specs.Way.{wayOf};
+ghost use Rattle.submission.specs.Check.{wayOf};
 
 // The instruction of step i: each premise is taken from its lowest register.
 fn instruction_of(s: &[u8], registers: Registers, i: u8) -> Instruction

@@ -9,11 +9,10 @@ use native.Mathlib.Omega.{arith}
 use lib.ListN.{length, getD, set, replicate, length-set, length-replicate}
 use lib.Seq.{getD-set-other}
 use borrow.Author.Tests.{eq-eqb, ne-eqb}
-use Rattle.term.specs.Table.{Rec, leaf, branch}
 use Rattle.term.specs.Code.{Below, isUnary}
 use Rattle.submission.specs.declared.Term.{Term}
 use Rattle.submission.specs.Code.{IsTerm}
-use Rattle.term.specs.Term.{Shape, atomic, compound}
+use Rattle.term.specs.Term.{Shape, atomic, compound, Rec, leaf, branch}
 use Rattle.term.specs.Number.{shapeOf}
 use Rattle.submission.specs.Record.{terms, kindAt, xAt, yAt, nameAt, recordOf, recordAt}
 use Rattle.deduction.specs.declared.Parts.{Parts}

@@ -10,11 +10,10 @@ use lib.ListN.{getD}
 use borrow.Author.Tests.{eq-eqb, ne-eqb, lt-ltb, le-ltb}
 use Rattle.base.specs.declared.Stage.{Stage}
 use Rattle.base.specs.declared.Stage.the-variants.{Passed, Refused}
-use Rattle.base.specs.Answer.{done, refused}
-use Rattle.base.specs.Lists.{Bytes}
+use Rattle.base.specs.Answer.{done, refused, answerOf}
+use Rattle.base.specs.Words.{Bytes}
 use Rattle.submission.specs.Record.{terms}
 use Rattle.base.specs.Code.{checkOf}
-use Rattle.base.specs.Calls.{answerOf}
 use Rattle.base.specs.Computed.{answered}
 use Rattle.base.specs.declared.Answer.{Answer}
 use Rattle.deduction.specs.Computed.{built, entryMarks, isDeducible, deducibleAnswer}

@@ -8,7 +8,7 @@ use native.Mathlib.Omega.{arith}
 use lib.ListN.{length, getD, set, length-set}
 use lib.Seq.{getD-set-same, getD-set-other}
 use borrow.Author.Count.{below-more}
-use Rattle.base.specs.Lists.{first}
+use Rattle.base.specs.Words.{first}
 use Rattle.base.proofs.First.{Passed, passed-hit, passed-all, first-none, first-some}
 use Rattle.base.proofs.Says.{Says, says-and, says-any, says-true, same-test, denies}
 use Rattle.term.specs.Term.{asymmetric, isKeyFor}

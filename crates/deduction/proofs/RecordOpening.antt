@@ -10,10 +10,9 @@ use lib.ListN.{getD}
 use borrow.Author.Tests.{ne-eqb, eqb-true, eqb-false}
 use Rattle.base.proofs.BoolLaws.{and-right}
 use Rattle.base.proofs.Says.{says-eqb, says-or, says-and, says-true}
-use Rattle.term.specs.Term.{symmetric, asymmetric, Form, pair, encryption, Head, make, Shape, atomic, compound}
+use Rattle.term.specs.Term.{symmetric, asymmetric, Form, pair, encryption, Head, make, Shape, atomic, compound, branch}
 use Rattle.term.specs.{Number.shapeOf, Computed.kindOf}
 use Rattle.term.proofs.Kind.{shape-kind, kind-shape}
-use Rattle.term.specs.Table.{branch}
 use Rattle.term.proofs.Table.{part-below}
 use Rattle.submission.specs.declared.Term.{Term}
 use Rattle.submission.specs.Code.{IsTerm}

@@ -2,8 +2,8 @@
 use mathlib.Core.{Path._≡_, Logic._⊎_, Bool.Bool, Bool.true, Bool.false, Bool._&&_, Bool._||_, Bool.cond, List.List, List.[], List._∷_, List.map, Option.Option, Option.none, Option.some}
 use Prim.Native.Nat.{ℕ, suc, _≤_, _<_}
 use lib.{Dec.eqb, ListN.length, ListN.getD, ListN.set}
-use Rattle.base.specs.{Lists.first, Computed.passes, Lists.Bytes}
-use Rattle.term.specs.{Step.Deducible, Table.Rec, Table.leaf, Table.branch}
+use Rattle.base.specs.{Words.first, Computed.passes, Words.Bytes}
+use Rattle.term.specs.{Step.Deducible, Term.Rec, Term.leaf, Term.branch}
 use Rattle.submission.specs.{Record.terms, Record.recordAt, Record.term, Computed.areInverse, Computed.checks1to4}
 use Rattle.deduction.specs.declared.Parts.{Parts}
 use Rattle.deduction.specs.declared.Parts.the-variants.{Nothing, Both}

@@ -3,8 +3,8 @@
 use mathlib.Core.{Path._≡_, Bool.Bool, Bool.true, Bool.false, Bool._&&_, Bool._||_, List.List}
 use Prim.Native.Nat.{ℕ, zero, suc, _<_}
 use lib.{Dec.eqb, ListN.getD}
-use Rattle.base.specs.Lists.{listed}
-use Rattle.term.specs.{Term.Cipher, Term.symmetric, Term.asymmetric, Term.pair, Term.encryption, Term.make, Term.part, Term.decrypt, Table.Rec, Table.leaf, Table.branch}
+use Rattle.base.specs.Words.{listed}
+use Rattle.term.specs.{Term.Cipher, Term.symmetric, Term.asymmetric, Term.pair, Term.encryption, Term.make, Term.part, Term.decrypt, Term.Rec, Term.leaf, Term.branch}
 use Rattle.submission.specs.{Record.terms, Record.entries, Record.entryAt, Record.recordAt, Computed.areInverse, Computed.checks1to4}
 use Rattle.term.specs.Term.{Term}
 use Rattle.submission.specs.Record.{term}

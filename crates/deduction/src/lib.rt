@@ -10,11 +10,11 @@ ghost use mathlib.Core.Path.{_≡_};
 ghost use mathlib.Core.Bool.{_&&_};
 ghost use Prim.Native.Nat.{_<_};
 ghost use lib.ListN.{length};
-ghost use Rattle.base.specs.Lists.{first};
+ghost use Rattle.base.specs.Words.{first};
 ghost use Rattle.submission.specs.Record.{terms, recordAt};
 ghost use Rattle.submission.specs.Computed.{areInverse};
-ghost use Rattle.deduction.specs.Computed.{built, entryMarks, isDeducible};
-ghost use Rattle.deduction.specs.Calls.{Deduced};
+ghost use Rattle.deduction.specs.Computed.{built, entryMarks, isDeducible, deducibleAnswer};
+ghost use Rattle.base.specs.Answer.{answerOf};
 ghost use Rattle.deduction.specs.Code.{TableRead, marksOf, SameMarks, orNone, Inverses, partsOf, Memo, Decided, Unbuilt, OfTerms, OpensAs, opensBy, Settled, Exact, withMark, Swept, TakenApart};
 
 // A number for each term number. Of marks, 1 marks the term; those of numbers that are not below T count for nothing.
@@ -354,7 +354,7 @@ fn is_deducible(s: &[u8], t: u8) -> bool
 
 // Whether term t is deducible from the knowledge of the submission: 1 for yes, 0 for no.
 pub fn deducible(s: &[u8], t: u8) -> Answer
-    ensures { λ r. ⌜ Deduced (now (s .entry)) t r ⌝ }
+    ensures { λ r. ⌜ answerOf r ≡ deducibleAnswer (now (s .entry)) t ⌝ }
 {
     let body = submission::check_body(s);
     let Stage::Passed = body else {

@@ -10,7 +10,7 @@ use lib.Dec.{eqb}
 use lib.ListN.{length, getD, set, List·getD-eq-default}
 use lib.Seq.{getD-set-same, getD-set-other}
 use borrow.Author.Tests.{eq-eqb, ne-eqb, eqb-true, eqb-false}
-use Rattle.base.specs.{Lists.firstFrom, Lists.first, Code.isSome, Computed.any}
+use Rattle.base.specs.{Words.firstFrom, Words.first, Code.isSome, Computed.any}
 use Rattle.base.proofs.First.{first-some}
 use Rattle.base.proofs.BoolLaws.{and-both, and-right}
 use Rattle.base.proofs.FirstGrowing.{first-kept, first-next, first-same}
@@ -20,10 +20,10 @@ use Rattle.submission.specs.Code.{Limited, IsClaimBytes}
 use Rattle.submission.specs.Record.{entries, steps, entryAt}
 use Rattle.derivation.specs.declared.Step.{Step}
 use Rattle.derivation.specs.declared.Registers.{Registers}
-use Rattle.derivation.specs.Register.{registerTerm, written, lowestAmong}
+use Rattle.derivation.specs.Step.{registerTerm, written}
 use Rattle.derivation.specs.Code.{IsStep, orNone, RegisteredAmong, Registered, Unused, Added}
 use Rattle.derivation.proofs.theory.RegisterTerms.{entry-register, guess-register, result-register}
-use Rattle.derivation.specs.Computed.{holdsTerm}
+use Rattle.derivation.specs.Computed.{holdsTerm, lowestAmong}
 
 -- ---- one call of `with`
 pub added-kept : {b : Registers} {i t : ℕ} → i ≡ t → (getD (b .first) i 0 ≡ 255 → ⊥) → Added b t (record { first = b .first; used = b .used + 1 })

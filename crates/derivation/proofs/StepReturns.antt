@@ -16,7 +16,7 @@ use Rattle.base.specs.declared.Stage.{Stage}
 use Rattle.base.specs.declared.Stage.the-variants.{Passed, Refused}
 use Rattle.derivation.specs.declared.Step.{Step}
 use Rattle.derivation.specs.declared.Registers.{Registers}
-use Rattle.derivation.specs.Register.{written}
+use Rattle.derivation.specs.Step.{written}
 use Rattle.derivation.specs.{Computed.badStep, Computed.unfounded, Computed.checkSteps}
 use Rattle.derivation.specs.Code.{IsStep, Registered, checkStep, StepsChecked}
 use Rattle.derivation.proofs.RegistersHeld.{held-any}

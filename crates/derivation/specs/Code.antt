@@ -8,7 +8,7 @@ use Rattle.base.specs.declared.Stage.the-variants.{Passed}
 use Rattle.derivation.specs.declared.Step.{Step}
 use Rattle.derivation.specs.declared.Registers.{Registers}
 use Rattle.derivation.specs.declared.StepsAnswer.{StepsAnswer}
-use Rattle.derivation.specs.{Register.written, Register.lowestAmong, Computed.every, Computed.badStep, Computed.unfounded, Computed.checkSteps}
+use Rattle.derivation.specs.{Step.written, Computed.lowestAmong, Computed.every, Computed.badStep, Computed.unfounded, Computed.checkSteps}
 
 -- r holds step i
 pub record IsStep (s : List ℕ) (i : ℕ) (r : Step) : Type 0 where

@@ -1,4 +1,3 @@
 pub mod Code
 pub mod Computed
-pub mod Register
 pub mod Step

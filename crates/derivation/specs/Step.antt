@@ -1,7 +1,7 @@
--- The steps of a derivation, and rows 6 and 7 of the table of verdicts: document 01, 'Dolev-Yao steps' and 'Verdicts'.
-use Rattle.base.specs.{Words._≡_, Words._⊎_, Words.true, Words.List, Words.ℕ, Words._<_, Answer.rowAmong, Answer.together}
+-- The steps of a derivation, rows 6 and 7 of the table of verdicts, and the registers' terms: document 01, 'Dolev-Yao steps' and 'Verdicts'.
+use Rattle.base.specs.{Words._≡_, Words._⊎_, Words.true, Words.cond, Words.List, Words.ℕ, Words._+_, Words._-_, Words._<_, Words.eqb, Words.ltb, Answer.numbered}
 use Rattle.term.specs.{Term.Head, Term.Term, Number.rules, Number.headOf, Number.hasOne, Step.Step}
-use Rattle.submission.specs.Record.{terms, steps, ruleAt, pAt, qAt, secondAt, conclusionAt, guess, term, InKnowledge}
+use Rattle.submission.specs.Record.{terms, entries, steps, entryAt, ruleAt, pAt, qAt, secondAt, conclusionAt, guess, term, InKnowledge}
 
 -- the rule, the two premises and the conclusion of step i, as terms
 abbrev pub rule : List ℕ → ℕ → Head
@@ -35,4 +35,14 @@ Known s i t = InKnowledge s t ⊎ ((t ≡ term s (guess s)) ⊎ ((j : ℕ) × (j
 
 -- "6 and 7 are tried together, step by step": 6 step, "rule, number or shape wrong"; 7 unfounded, "a premise not known"
 abbrev pub rows6and7 : List ℕ → ℕ → ℕ → Type 0
-rows6and7 s = together (rowAmong 6 (steps s) (λ i. StepFits s i → ⊥)) (rowAmong 7 (steps s) (λ i. (x : Term) × Premise s i x × (Known s i x → ⊥)))
+rows6and7 s n p =
+    numbered 6 (λ i. (i < steps s) × (StepFits s i → ⊥)) n p
+    ⊎ numbered 7 (λ i. (i < steps s) × ((x : Term) × Premise s i x × (Known s i x → ⊥))) n p
+
+-- "Registers 0 to K-1 hold the knowledge in order, register K the guess, K+1+i the result of step i": register r's term number
+unfoldable pub registerTerm : List ℕ → ℕ → ℕ
+registerTerm s r = cond (ltb r (entries s)) (entryAt s r) (cond (eqb r (entries s)) (guess s) (conclusionAt s (r - (entries s + 1))))
+
+-- how many registers are written before step i, and so the register of its result
+abbrev pub written : List ℕ → ℕ → ℕ
+written s i = entries s + 1 + i

@@ -17,7 +17,7 @@ ghost use Rattle.submission.specs.Code.{Limited};
 ghost use Rattle.submission.specs.Record.{entries};
 ghost use Rattle.submission.specs.Computed.{areInverse};
 ghost use Rattle.base.specs.Code.{checkOf};
-ghost use Rattle.derivation.specs.Register.{written};
+ghost use Rattle.derivation.specs.Step.{written};
 ghost use Rattle.derivation.specs.Computed.{follows as followsBy, badStep, unfounded};
 ghost use Rattle.derivation.specs.Code.{IsStep, Registered, Unused, Added, checkStep, StepsChecked};
 

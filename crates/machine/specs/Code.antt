@@ -4,8 +4,8 @@ use Rattle.term.specs.Term as words
 use mathlib.Core.{Path._≡_, Bool.Bool, Bool._&&_, Bool._||_, Bool.cond, List.List, List.[], List._∷_, List._++_, Option.Option, Option.none, Option.some}
 use Prim.Native.Nat.{ℕ, _+_, _-_, _≤_, _<_}
 use lib.{Dec.eqb, Dec.ltb, Dec.leb, ListN.length, ListN.getD, ListN.set}
-use Rattle.base.specs.{Lists.first, Lists.listed, Computed.passes, Lists.Bytes}
-use Rattle.term.specs.{Term.Kind, Term.public, Term.private, Term.left, Term.right, Term.part, Term.atomic, Term.Term, Number.shapeOf, Computed.kindOf, Table.Rec, Table.leaf, Table.branch, Table.decoded, Table.void, Code.Table, Code.ruleOf, Number.rules, Number.headOf}
+use Rattle.base.specs.{Words.first, Words.listed, Computed.passes, Words.Bytes}
+use Rattle.term.specs.{Term.Kind, Term.public, Term.private, Term.left, Term.right, Term.part, Term.atomic, Term.Term, Number.shapeOf, Computed.kindOf, Term.Rec, Term.leaf, Term.branch, Term.decoded, Term.void, Code.Table, Code.ruleOf, Number.rules, Number.headOf}
 use Rattle.submission.specs.{Record.terms, Record.entries, Record.entryAt, Record.term, Computed.checks1to5}
 use Rattle.machine.specs.declared.Node.{Node}
 use Rattle.machine.specs.declared.Machine.{Machine}

@@ -1,6 +1,6 @@
 -- The machine: document 01, 'Machine'. "Run takes a submission, a 16-bit name and a program."
-use Rattle.base.specs.{Words.Bool, Words.true, Words.false, Words.cond, Words.ite, Words.List, Words.[], Words._∷_, Words._++_, Words.Option, Words.none, Words.some, Words.ℕ, Words.getD, Lists.grow, Lists.listed, Lists.byte, Answer.rowAt}
-use Rattle.term.specs.{Term.Kind, Term.plain, Term.asymmetric, Term.Shape, Term.atomic, Term.compound, Term.Term, Term.atom, Computed.term?, Number.shapeOf, Table.void, Reduce.op, Computed.match?, Number.headOf, Term.Relation, Term.equal, Term.inverses}
+use Rattle.base.specs.{Words._≡_, Words.Bool, Words.true, Words.false, Words.cond, Words.ite, Words.List, Words.[], Words._∷_, Words._++_, Words.Option, Words.none, Words.some, Words.ℕ, Words.getD, Words.grow, Words.listed, Words.byte, Answer.numbered}
+use Rattle.term.specs.{Term.Kind, Term.plain, Term.asymmetric, Term.Shape, Term.atomic, Term.compound, Term.Term, Term.atom, Computed.term?, Number.shapeOf, Term.void, Reduce.op, Computed.match?, Number.headOf, Term.Relation, Term.equal, Term.inverses}
 use Rattle.submission.specs.{Record.entries, Record.entryAt, Record.guess, Record.kindAt, Record.term, Check.rows1to5}
 use Rattle.program.specs.Program.{relationOf, Instruction, instructionAt, testAt, operand, ProgramFits}
 
@@ -39,4 +39,4 @@ signal s name P = cond (signals (registers s name P (byte P 0)) (testAt P)) 1 0
 
 -- "run makes 1 to 5, then 13": 13 program
 abbrev pub runRows : List ℕ → List ℕ → List (ℕ → ℕ → Type 0)
-runRows s P = rows1to5 s ++ rowAt 13 0 (ProgramFits s P → ⊥) ∷ []
+runRows s P = rows1to5 s ++ numbered 13 (λ p. (p ≡ 0) × (ProgramFits s P → ⊥)) ∷ []

@@ -14,7 +14,7 @@ ghost use mathlib.Core.Bool.{false, cond, _&&_};
 ghost use mathlib.Core.List.{[]};
 ghost use Prim.Native.Nat.{_+_, _≤_, _<_};
 ghost use lib.Dec.{eqb};
-ghost use Rattle.base.specs.Lists.{first, byte as byteAt};
+ghost use Rattle.base.specs.Words.{first, byte as byteAt};
 ghost use Rattle.term.specs.Term.{pair, make, pick};
 ghost use Rattle.term.specs.Code.{ruleOf, relationIs};
 ghost use Rattle.submission.specs.Record.{terms as termCount, entries as entryCount, recordAt};
@@ -22,7 +22,8 @@ ghost use mathlib.Core.Option.{some};
 ghost use Rattle.program.specs.Program.{relationOf, testAt};
 ghost use Rattle.program.specs.Code.{instructionIn};
 ghost use Rattle.machine.specs.Run.{executed as executedTerm, signals};
-ghost use Rattle.machine.specs.Calls.{Ran};
+ghost use Rattle.base.specs.Answer.{answerOf};
+ghost use Rattle.machine.specs.Computed.{runAnswer};
 ghost use Rattle.machine.specs.Code.{sideOf, nodeFor, nodeOf, operandsOf, sameNode, partsOfOne, inverseNodes, matchNodes, isNodeFrom, foundOf, orFound, valueOf, when, values, Executable, Valued, Gives, SubmissionRead, knowledge, Loaded, Started, Running, Testable};
 ghost use Rattle.program.specs.Computed.{badProgram};
 
@@ -449,7 +450,7 @@ fn signal(program: &[u8], relation: Relation, m: Machine) -> u16
 
 // The signal of a program on a submission, with a name for the guess; or the refusal of the first of checks 1 to 5 and 13 that fails.
 pub fn run(s: &[u8], name: u16, program: &[u8]) -> Answer
-    ensures { λ r. ⌜ Ran (now (s .entry)) name (now (program .entry)) r ⌝ }
+    ensures { λ r. ⌜ answerOf r ≡ runAnswer (now (s .entry)) name (now (program .entry)) ⌝ }
 {
     let reading = submission::check_reading(s);
     let Reading::Good(_claim) = reading else {

@@ -2,7 +2,7 @@
 use mathlib.Core.{Bool.cond, Option.Option, Option.none, Option.some, List.List}
 use Prim.Native.Nat.{ℕ}
 use lib.ListN.{getD}
-use Rattle.base.specs.Lists.{listed}
+use Rattle.base.specs.Words.{listed}
 use Rattle.program.specs.declared.Asked.{Asked}
 use Rattle.program.specs.declared.Asked.the-variants.{Asks, Nothing}
 use Rattle.program.specs.declared.Instruction.{Instruction as InstructionRead}

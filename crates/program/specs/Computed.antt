@@ -1,5 +1,5 @@
 -- Check 13 as a test; what it says is proved: `program-iff`.
-use Rattle.base.specs.{Words.Bool, Words.true, Words._&&_, Words._||_, Words.not, Words.cond, Words.List, Words.none, Words.some, Words.ℕ, Words._+_, Words.eqb, Words.ltb, Words.length, Lists.byte, Computed.any}
+use Rattle.base.specs.{Words.Bool, Words.true, Words._&&_, Words._||_, Words.not, Words.cond, Words.List, Words.none, Words.some, Words.ℕ, Words._+_, Words.eqb, Words.ltb, Words.length, Words.byte, Computed.any}
 use Rattle.term.specs.{Number.hasOne, Computed.isRule}
 use Rattle.submission.specs.Record.{entries}
 use Rattle.program.specs.Program.{rowOf, relationOf, Instruction, programLength, instructionAt, testAt}

@@ -1,5 +1,5 @@
 -- Register programs: their tests, instructions and bytes, and what row 13 asks of them. Document 01, 'The register program' and 'Verdicts'.
-use Rattle.base.specs.{Words._≡_, Words.Bool, Words.true, Words.false, Words.cond, Words.List, Words.[], Words._∷_, Words._++_, Words.Option, Words.none, Words.some, Words.ℕ, Words._+_, Words._*_, Words._<_, Words._≤_, Words.eqb, Words.length, Lists.byte}
+use Rattle.base.specs.{Words._≡_, Words.Bool, Words.true, Words.false, Words.cond, Words.List, Words.[], Words._∷_, Words._++_, Words.Option, Words.none, Words.some, Words.ℕ, Words._+_, Words._*_, Words._<_, Words._≤_, Words.eqb, Words.length, Words.byte}
 use Rattle.term.specs.{Term.Relation, Term.equal, Term.inverses, Number.rules, Number.hasOne}
 use Rattle.submission.specs.Record.{entries}
 

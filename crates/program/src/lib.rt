@@ -7,7 +7,7 @@ ghost use mathlib.Core.List.{[], _∷_, _++_};
 ghost use Prim.Native.Nat.{_+_, _*_, _≤_, _<_};
 ghost use lib.ListN.{length, set, drop};
 ghost use lib.Seq.{sets};
-ghost use Rattle.base.specs.Lists.{listed, byte as byteAt};
+ghost use Rattle.base.specs.Words.{listed, byte as byteAt};
 ghost use Rattle.term.specs.Code.{relationIs};
 ghost use Rattle.program.specs.Program.{rowOf, relationOf, instructionBytes, bytesOf, programLength, instructionAt, testAt, operand};
 ghost use Rattle.program.specs.Code.{relationIn, asked, instructionIn, testIn, heldAt, programIn};

@@ -25,7 +25,7 @@ use Rattle.base.specs.declared.Stage.{Stage}
 use Rattle.base.specs.declared.Stage.the-variants as stage
 use Rattle.base.specs.Code.{checkOf}
 use Rattle.submission.specs.Record.{terms, steps, kindAt, guess, verifying, wayAt}
-use Rattle.submission.specs.Way.{wayOf, row}
+use Rattle.submission.specs.Check.{wayOf, row}
 use Rattle.submission.specs.Computed.{inRange, claimFits, goodClaim, checks1to4, checks1to5}
 use Rattle.submission.specs.Code.{IsTerm, wayIs, letterIs, rangeIs, rowIs, IsClaimBytes, IsClaim, readingCheck, ReadingIs}
 

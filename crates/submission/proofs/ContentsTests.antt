@@ -6,8 +6,8 @@ use Prim.Native.Nat.{ℕ, _*_, _<_, _≤_}
 use lib.Dec.{eqb}
 use borrow.Author.Tests.{eq-eqb, ne-eqb, lt-ltb, le-ltb}
 use mathlib.Core.Option.{none, some}
-use Rattle.base.specs.{Computed.any, Lists.first, Lists.firstFrom, Code.isSome}
-use Rattle.base.specs.Lists.{byte}
+use Rattle.base.specs.{Computed.any, Words.first, Words.firstFrom, Code.isSome}
+use Rattle.base.specs.Words.{byte}
 use Rattle.submission.specs.Record.{letter, count, least, most}
 use Rattle.submission.specs.Computed.{badCount}
 

@@ -1,7 +1,48 @@
--- Rows 1 to 5 of the table of verdicts: document 01, 'Verdicts', with what 'The submission' asks of terms and claim.
-use Rattle.base.specs.{Words._≡_, Words._⊎_, Words.true, Words.List, Words.[], Words._∷_, Words._++_, Words.some, Words.ℕ, Words._+_, Words._*_, Words._<_, Words._≤_, Words.length, Lists.byte, Answer.rowAt, Answer.rowAmong}
-use Rattle.term.specs.{Term.Kind, Term.Second, Term.absent, Term.anything, Term.keyFor, Term.second, Term.Shape, Term.atomic, Term.compound, Term.isKeyFor, Number.shapeOf}
-use Rattle.submission.specs.{Record.letter, Record.count, Record.start, Record.least, Record.most, Record.terms, Record.entries, Record.kindAt, Record.xAt, Record.yAt, Record.entryAt, Record.guess, Record.verifying, Record.wayAt, Record.companion, Way.Way, Way.wayOf, Way.row, Way.InRange}
+-- The table of ways, and rows 1 to 5 of the table of verdicts: document 01, 'The submission' and 'Verdicts'.
+use Rattle.base.specs.{Words._≡_, Words._⊎_, Words.Bool, Words.true, Words.false, Words.cond, Words.List, Words.[], Words._∷_, Words._++_, Words.Option, Words.none, Words.some, Words.ℕ, Words._+_, Words._*_, Words._<_, Words._≤_, Words.eqb, Words.length, Words.byte, Answer.numbered}
+use Rattle.term.specs.{Term.Kind, Term.Second, Term.absent, Term.anything, Term.keyFor, Term.second, Term.Shape, Term.atomic, Term.compound, Term.isKeyFor, Term.Relation, Term.equal, Term.inverses, Number.shapeOf}
+use Rattle.submission.specs.Record.{letter, count, start, least, most, terms, entries, steps, kindAt, xAt, yAt, entryAt, guess, verifying, wayAt, companion}
+
+-- way a: another step concludes the same term; way b: it is known at the start; way c: its inverse key is known
+pub data Way : Type 0 where
+  another-step at-start inverse-key : Way
+
+-- "way (letter a, b or c)"
+unfoldable pub wayOf : ℕ → Option Way
+wayOf l = cond (eqb l 0x61) (some another-step) (cond (eqb l 0x62) (some at-start) (cond (eqb l 0x63) (some inverse-key) none))
+
+-- what a number of the claim may be: a step's, a term's, or 0 only
+pub data Range : Type 0 where
+  step-number term-number zero-only : Range
+
+-- a register that the test names: of the verifying step or of the companion step, or the lowest that holds v or the companion
+pub data Operand : Type 0 where
+  verifying-result companion-result lowest-conclusion lowest-companion : Operand
+
+pub record Row : Type 0 where
+  -- "step or companion out of range (a: N, c: T, b: not 0)"
+  pub step : Range
+  pub companion : Range
+  -- condition 5: "nor in way a by the companion"
+  pub companionKept : Bool
+  -- "The test names the verifying step's register first, then: way a, the companion step's; b, the lowest register holding v;
+  -- c, the lowest holding the inverse, with `i`."
+  pub relation : Relation
+  pub tested : Operand
+  pub against : Operand
+
+abbrev pub row : Way → Row
+row another-step =
+    record { step = step-number; companion = step-number; companionKept = true; relation = equal; tested = verifying-result; against = companion-result }
+row at-start =
+    record { step = step-number; companion = zero-only; companionKept = false; relation = equal; tested = verifying-result; against = lowest-conclusion }
+row inverse-key =
+    record { step = step-number; companion = term-number; companionKept = false; relation = inverses; tested = verifying-result; against = lowest-companion }
+
+abbrev pub InRange : List ℕ → Range → ℕ → Type 0
+InRange s step-number n = n < steps s
+InRange s term-number n = n < terms s
+InRange s zero-only n = n ≡ 0
 
 -- "under 16 bytes; a letter, start or the length wrong"
 abbrev pub BadContents : List ℕ → Type 0
@@ -27,25 +68,21 @@ BadTerm s i =
     (((z : Shape) × (shapeOf (kindAt s i) ≡ some z) × Shaped s i z) → ⊥)
     ⊎ ((j : ℕ) × (j < i) × ((kindAt s j ≡ kindAt s i) × ((xAt s j ≡ xAt s i) × (yAt s j ≡ yAt s i))))
 
--- not "guess not below T or no atom; step or companion out of range (a: N, c: T, b: not 0); way"
-pub record ClaimFits (s : List ℕ) : Type 0 where
-  pub guess-below : guess s < terms s
-  pub guess-kind : Kind
-  pub guess-shape : shapeOf (kindAt s (guess s)) ≡ some (atomic guess-kind)
-  pub way : Way
-  pub has-way : wayOf (wayAt s) ≡ some way
-  pub step-in-range : InRange s (row way .step) (verifying s)
-  pub companion-in-range : InRange s (row way .companion) (companion s)
+-- not "guess not below T or no atom; step or companion out of range ..; way"
+abbrev pub ClaimFits : List ℕ → Type 0
+ClaimFits s =
+    (guess s < terms s) × (((κ : Kind) × (shapeOf (kindAt s (guess s)) ≡ some (atomic κ)))
+    × ((w : Way) × (wayOf (wayAt s) ≡ some w) × (InRange s (row w .step) (verifying s) × InRange s (row w .companion) (companion s))))
 
--- 1 contents, 2 count, 3 term, 4 knowledge
+-- 1 contents; 2 count, "T, K, D, V outside its limits"; 3 term; 4 knowledge, "entry not below T, or equal to an earlier one"
 abbrev pub rows1to4 : List ℕ → List (ℕ → ℕ → Type 0)
 rows1to4 s =
-    rowAt 1 0 (BadContents s)
-    ∷ rowAmong 2 4 (λ i. (count s i < least i) ⊎ (most i < count s i))
-    ∷ rowAmong 3 (terms s) (BadTerm s)
-    ∷ rowAmong 4 (entries s) (λ i. (terms s ≤ entryAt s i) ⊎ ((j : ℕ) × (j < i) × (entryAt s j ≡ entryAt s i)))
+    numbered 1 (λ p. (p ≡ 0) × BadContents s)
+    ∷ numbered 2 (λ i. (i < 4) × ((count s i < least i) ⊎ (most i < count s i)))
+    ∷ numbered 3 (λ i. (i < terms s) × BadTerm s i)
+    ∷ numbered 4 (λ i. (i < entries s) × ((terms s ≤ entryAt s i) ⊎ ((j : ℕ) × (j < i) × (entryAt s j ≡ entryAt s i))))
     ∷ []
 
 -- 5 claim
 abbrev pub rows1to5 : List ℕ → List (ℕ → ℕ → Type 0)
-rows1to5 s = rows1to4 s ++ rowAt 5 0 (ClaimFits s → ⊥) ∷ []
+rows1to5 s = rows1to4 s ++ numbered 5 (λ p. (p ≡ 0) × (ClaimFits s → ⊥)) ∷ []

@@ -16,7 +16,7 @@ use Rattle.submission.specs.declared.Operand.the-variants.{VerifyingResu
 use Rattle.submission.specs.declared.Row.{Row as RowRead}
 use Rattle.submission.specs.declared.Reading.{Reading}
 use Rattle.submission.specs.declared.Reading.the-variants.{Good, Refused}
-use Rattle.submission.specs.{Way.Way, Way.another-step, Way.at-start, Way.inverse-key, Way.wayOf, Way.Range, Way.step-number, Way.term-number, Way.zero-only, Way.Operand, Way.verifying-result, Way.companion-result, Way.lowest-conclusion, Way.lowest-companion, Way.Row, Record.start, Record.count, Record.terms, Record.kindAt, Record.xAt, Record.yAt, Record.guess, Record.verifying, Record.wayAt, Record.companion}
+use Rattle.submission.specs.{Check.Way, Check.another-step, Check.at-start, Check.inverse-key, Check.wayOf, Check.Range, Check.step-number, Check.term-number, Check.zero-only, Check.Operand, Check.verifying-result, Check.companion-result, Check.lowest-conclusion, Check.lowest-companion, Check.Row, Record.start, Record.count, Record.terms, Record.kindAt, Record.xAt, Record.yAt, Record.guess, Record.verifying, Record.wayAt, Record.companion}
 use Rattle.term.specs.Code.{relationIs}
 use Rattle.base.specs.Computed.{Check, passes, fails}
 

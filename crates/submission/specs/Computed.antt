@@ -1,7 +1,7 @@
 -- Checks 1 to 5 and tests of term numbers; what they say is proved: `tells-1-to-5`, `inverse-iff`, `says-fresh`.
-use Rattle.base.specs.{Words.Bool, Words.true, Words.false, Words._&&_, Words._||_, Words.not, Words.cond, Words.List, Words.Option, Words.none, Words.some, Words.ℕ, Words._+_, Words._*_, Words.eqb, Words.ltb, Words.length, Lists.first, Lists.byte, Computed.any, Computed.Check, Computed.failsAt, Computed.failsIf, Computed.andThen}
+use Rattle.base.specs.{Words.Bool, Words.true, Words.false, Words._&&_, Words._||_, Words.not, Words.cond, Words.List, Words.Option, Words.none, Words.some, Words.ℕ, Words._+_, Words._*_, Words.eqb, Words.ltb, Words.length, Words.first, Words.byte, Computed.any, Computed.Check, Computed.failsAt, Computed.failsIf, Computed.andThen}
 use Rattle.term.specs.{Term.second, Term.unary, Term.Shape, Term.atomic, Term.compound, Term.Term, Term.inverse, Number.shapeOf, Computed.takes, Computed.isAtomic, Computed.inverseKinds, Computed.isPart}
-use Rattle.submission.specs.{Record.letter, Record.count, Record.start, Record.least, Record.most, Record.terms, Record.entries, Record.steps, Record.kindAt, Record.xAt, Record.yAt, Record.entryAt, Record.guess, Record.verifying, Record.wayAt, Record.companion, Record.term, Way.Way, Way.wayOf, Way.Range, Way.step-number, Way.term-number, Way.zero-only, Way.row}
+use Rattle.submission.specs.{Record.letter, Record.count, Record.start, Record.least, Record.most, Record.terms, Record.entries, Record.steps, Record.kindAt, Record.xAt, Record.yAt, Record.entryAt, Record.guess, Record.verifying, Record.wayAt, Record.companion, Record.term, Check.Way, Check.wayOf, Check.Range, Check.step-number, Check.term-number, Check.zero-only, Check.row}
 
 -- 1 contents: "under 16 bytes; a letter, start or the length wrong"
 unfoldable pub badContents : List ℕ → Bool

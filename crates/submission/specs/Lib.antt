@@ -2,4 +2,3 @@ pub mod Check
 pub mod Code
 pub mod Computed
 pub mod Record
-pub mod Way

@@ -1,6 +1,6 @@
 -- A submission's contents and records: document 01, 'The submission'. "Records count from 0."
-use Rattle.base.specs.{Words._≡_, Words.cond, Words.List, Words.[], Words._∷_, Words.Option, Words.none, Words.some, Words.ℕ, Words.zero, Words.suc, Words._+_, Words._*_, Words._<_, Words.getD, Lists.byte}
-use Rattle.term.specs.{Number.hasOne, Term.plain, Term.unary, Term.make, Term.Shape, Term.atomic, Term.compound, Term.Term, Number.shapeOf, Table.Rec, Table.leaf, Table.branch, Table.decoded, Table.void, Term.second}
+use Rattle.base.specs.{Words._≡_, Words.cond, Words.List, Words.[], Words._∷_, Words.Option, Words.none, Words.some, Words.ℕ, Words.zero, Words.suc, Words._+_, Words._*_, Words._<_, Words.getD, Words.byte}
+use Rattle.term.specs.{Number.hasOne, Term.plain, Term.unary, Term.make, Term.Shape, Term.atomic, Term.compound, Term.Term, Number.shapeOf, Term.Rec, Term.leaf, Term.branch, Term.decoded, Term.void, Term.second}
 
 -- "four entries of 4 bytes: a letter, a one-byte count, a two-byte start", 0 to 3; "T terms, K knowledge, D derivation, V claim"
 abbrev pub letter : ℕ → ℕ

@@ -8,7 +8,7 @@ use native.Mathlib.Omega.{arith}
 use lib.Dec.{eqb}
 use lib.ListN.{length}
 use borrow.Author.Tests.{ne-eqb}
-use Rattle.base.specs.Lists.{grow, listed}
+use Rattle.base.specs.Words.{grow, listed}
 use Rattle.base.proofs.Says.{Says, says-eqb}
 use Rattle.term.specs.{Term.plain, Term.public, Term.private, Term.symmetric, Term.asymmetric, Term.Form, Term.pair, Term.encryption, Term.Second, Term.absent, Term.anything, Term.keyFor, Term.make, Term.single, Computed.takes, Term.Shape, Term.atomic, Term.compound, Computed.shape?, Computed.isAtomic, Term.isKeyFor, Number.kinds, Number.shapeOf, Computed.kindOf, Computed.inverseKinds}
 use Rattle.term.specs.Code.{isUnary, builderOf, secondOf, ruleOf}

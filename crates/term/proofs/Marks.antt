@@ -7,7 +7,7 @@ use Prim.Native.Nat.{ℕ, zero, suc, _+_, _≤_, _<_}
 use native.Mathlib.Omega.{arith}
 use lib.ListN.{length, getD}
 use lib.Seq.{ext-getD}
-use Rattle.base.specs.Lists.{listed}
+use Rattle.base.specs.Words.{listed}
 use Rattle.base.proofs.Order.{lt-or-ge}
 use Rattle.base.proofs.BoolLaws.{or-left, or-right, or-neither}
 use Rattle.base.proofs.Says.{Says, true-or-false, says-and, says-any, denies}

@@ -9,11 +9,10 @@ use native.Mathlib.Omega.{arith}
 use lib.Dec.{eqb, ltb}
 use lib.ListN.{length, getD}
 use borrow.Author.Tests.{ne-eqb}
-use Rattle.base.specs.Lists.{listed}
 use Rattle.base.proofs.Grow.{listed-at}
 use Rattle.base.proofs.Order.{lt-or-ge}
 use Rattle.base.proofs.Says.{says-true, says-ltb, says-and}
-use Rattle.base.specs.Words.{getElem?}
+use Rattle.base.specs.Words.{getElem?, listed}
 use Rattle.term.specs.Computed.{place}
 
 -- two functions of a number are equal below N where their listed values are

@@ -9,15 +9,15 @@ use native.Mathlib.Omega.{arith}
 use lib.Dec.{eqb, leb}
 use lib.ListN.{length, List·getD-eq-default}
 use borrow.Author.Tests.{eq-eqb, ne-eqb, lt-ltb, le-ltb, leb-true}
-use Rattle.base.specs.Lists.{grow, listed}
 use Rattle.base.proofs.Order.{lt-or-ge}
 use Rattle.base.proofs.Says.{Says}
 use Rattle.term.specs.{Term.symmetric, Term.asymmetric, Term.left, Term.right, Term.pair, Term.encryption, Term.Head, Term.make, Term.part, Term.decrypt, Computed.head?, Term.single}
-use Rattle.base.specs.Words.{ite}
-use Rattle.term.specs.Number.{table, rules, heads, wordOf, headOf, hasOne}
+use Rattle.base.specs.Words.{ite, grow, listed}
+use Rattle.term.specs.Number.{table, rules, wordOf, headOf, hasOne}
+use Rattle.term.specs.Code.{heads}
 use Rattle.term.specs.Code.{ruleOf}
 use Rattle.term.specs.Computed.{isHead, takesApart, ruleTakesApart, isRule}
-use Rattle.term.specs.Step.{takenBy, TakesApart}
+use Rattle.term.specs.Step.{takenBy}
 use Rattle.term.proofs.Reduce.{says-test}
 use Rattle.term.proofs.Numbered.{same-below, is, Arms, choice, allBelow, choice-is}
 
@@ -116,6 +116,6 @@ says-head : (b : Head) (o : Option Head) → Says (isHead b o) (o ≡ some b)
 says-head b none = (λ e. absurd (false≢true e), λ e. absurd (let z : _≡_ {A = ℕ} 0 1 = cc in omega arith))
 says-head b (some h) = (λ e. ap some (says-test (head? h b) .0 e), λ e. says-test (head? h b) .1 (cc))
 
-pub says-takes-apart : (t b : ℕ) → t < rules → b < rules → Says (ruleTakesApart t b) (TakesApart (headOf t) (headOf b))
+pub says-takes-apart : (t b : ℕ) → t < rules → b < rules → Says (ruleTakesApart t b) (takenBy (headOf t) ≡ some (headOf b))
 unfolding ruleTakesApart
 says-takes-apart t b k l = rw (lt-ltb t rules k, lt-ltb b rules l) (says-head (headOf b) (takenBy (headOf t)))

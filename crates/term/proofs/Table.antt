@@ -8,8 +8,7 @@ use native.Mathlib.Nat.{zero-add}
 use native.Mathlib.Omega.{arith}
 use lib.ListN.{getD}
 use Rattle.base.proofs.Grow.{grow-kept, grow-at}
-use Rattle.term.specs.Term.{Kind, Head, Term, atom, node}
-use Rattle.term.specs.Table.{Rec, leaf, branch, message, void, decoded}
+use Rattle.term.specs.Term.{Kind, Head, Term, atom, node, Rec, leaf, branch, message, void, decoded}
 use Rattle.term.specs.Code.{Below, Table}
 
 -- ---- equal terms have equal numbers

@@ -1,8 +1,8 @@
 -- What the code's enums and answers mean in document 01's terms, and notions that only proofs use.
 use Rattle.term.specs.declared.Relation.{Relation as RelationGiven}
 use Rattle.term.specs.declared.Relation.the-variants.{Equal, Inverse}
-use Rattle.term.specs.{Term.Relation, Term.equal, Term.inverses, Term.Second, Term.absent, Term.second, Term.unary, Term.make, Term.Shape, Term.atomic, Term.compound, Term.Head, Term.part, Term.decrypt, Computed.head?, Term.Term, Term.atom, Term.node, Term.Operands, Computed.place, Number.rules, Number.heads, Table.Rec, Table.leaf, Table.branch, Table.message}
-use mathlib.Core.{Bool.Bool, Bool.false, Option.Option, Option.none, Option.some, Path._≡_}
+use Rattle.term.specs.{Term.Relation, Term.equal, Term.inverses, Term.Second, Term.absent, Term.second, Term.unary, Term.make, Term.Shape, Term.atomic, Term.compound, Term.Head, Term.part, Term.decrypt, Computed.head?, Term.Term, Term.atom, Term.node, Term.Operands, Computed.place, Number.rules, Number.table, Term.Rec, Term.leaf, Term.branch, Term.message}
+use mathlib.Core.{List.List, List.map, Bool.Bool, Bool.false, Option.Option, Option.none, Option.some, Path._≡_}
 use Prim.Native.Nat.{ℕ, _<_}
 
 abbrev pub relationIs : RelationGiven → Relation
@@ -14,6 +14,10 @@ abbrev pub isUnary : Option Shape → Bool
 isUnary none = false
 isUnary (some (atomic κ)) = false
 isUnary (some (compound f)) = unary (second f)
+
+-- the rules' heads, in order
+abbrev pub heads : List Head
+heads = map (λ r. r .0) table
 
 -- the number of a head's rule
 abbrev pub ruleOf : Head → ℕ

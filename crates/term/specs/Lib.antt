@@ -3,5 +3,4 @@ pub mod Computed
 pub mod Number
 pub mod Reduce
 pub mod Step
-pub mod Table
 pub mod Term

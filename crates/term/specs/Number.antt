@@ -33,12 +33,9 @@ table =
 abbrev pub rules : ℕ
 rules = length table
 
-abbrev pub heads : List Head
-heads = map (λ r. r .0) table
-
 -- a number that is no rule, which checks 6 and 13 refuse, reads as deca
 unfoldable pub headOf : ℕ → Head
-headOf n = getD heads n (decrypt asymmetric)
+headOf n = getD (map (λ r. r .0) table) n (decrypt asymmetric)
 
 unfoldable pub wordOf : ℕ → List ℕ
 wordOf n = getD (map (λ r. r .1) table) n []

@@ -23,12 +23,7 @@ takenBy (make f) = none
 takenBy (part s) = some (make pair)
 takenBy (decrypt c) = some (make (encryption c))
 
--- the head h takes apart what the head b builds
-abbrev pub TakesApart : Head → Head → Type 0
-TakesApart h b = takenBy h ≡ some b
-
--- "Undoing goes by terms, never by position: pair(f, f') undoes fst and snd of that same pair and each of these undoes it;
--- enc or enca of f under k undoes the decryption that gives f from it, and the reverse": of a step of the rule h from p to t and one
--- of the rule h′ from p′ to t′, p and p′ the first premises, one takes apart the very term that the other builds
+-- "Undoing goes by terms, never by position": of a step of the rule h from p to t and one of the rule h′ from p′ to t′, p and p′ the first
+-- premises, one takes apart the very term that the other builds
 abbrev pub Undoes : Head → Term → Term → Head → Term → Term → Type 0
-Undoes h p t h′ p′ t′ = (TakesApart h h′ × (p ≡ t′)) ⊎ (TakesApart h′ h × (p′ ≡ t))
+Undoes h p t h′ p′ t′ = ((takenBy h ≡ some h′) × (p ≡ t′)) ⊎ ((takenBy h′ ≡ some h) × (p′ ≡ t))

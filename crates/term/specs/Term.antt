@@ -1,5 +1,5 @@
--- Terms, keys and parts: document 01, 'The submission' and 'The register program'. The numbers of kinds and rules are in `Number`.
-use Rattle.base.specs.Words.{_≡_, _⊎_, Bool, true, false, Option, none, some, ℕ, ite, Holds}
+-- Terms, keys, parts, and records as terms: document 01, 'The submission' and 'The register program'. The numbers of kinds and rules are in `Number`.
+use Rattle.base.specs.Words.{_≡_, _⊎_, Bool, true, false, Option, none, some, List, [], ℕ, ite, Holds, getD, grow}
 
 -- "plain atom", "public key", "private key"
 pub data Kind : Type 0 where
@@ -122,3 +122,21 @@ pub record Fresh (K : Term → Type 0) (w : Term) : Type 0 where
 -- What a test asks of two terms: "`=` signals 1 for equal terms, `i` when the first is a key and the second its inverse."
 pub data Relation : Type 0 where
   equal inverses : Relation
+
+-- a record of a table, as the submission's terms are: an atom, or a head over the numbers of two earlier records
+pub data Rec : Type 0 where
+  leaf : Kind → ℕ → Rec
+  branch : Head → ℕ → ℕ → Rec
+
+-- the term of a record, over the terms of the earlier ones
+abbrev pub message : (ℕ → Term) → Rec → Term
+message T (leaf κ n) = atom κ n
+message T (branch h x y) = node h (T x) (T y)
+
+-- what a list has past its end
+abbrev pub void : Term
+void = atom plain 0
+
+-- the terms of the first n records, each read over those before it
+unfoldable pub decoded : (ℕ → Rec) → ℕ → List Term
+decoded r n = grow [] (λ ts i. message (λ m. getD ts m void) (r i)) n

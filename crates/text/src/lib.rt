@@ -14,8 +14,7 @@ ghost use lib.Dec.{eqb};
 ghost use Rattle.term.specs.Number.{wordOf};
 ghost use Rattle.base.specs.Answer.{done};
 ghost use Rattle.program.specs.Program.{relationOf, relationWord, instructionAt, testAt};
-ghost use Rattle.text.specs.Text.{decimal, registerText, secondText, stepLine, stepLines, testLine, answerText, refusedText};
-ghost use Rattle.text.specs.Calls.{Puts};
+ghost use Rattle.text.specs.Text.{decimal, registerText, secondText, stepLine, stepLines, testLine, answerText, refusedText, Puts};
 
 // One byte; none where the buffer is full.
 fn put(out: &mut [u8], at: usize, b: u8) -> usize

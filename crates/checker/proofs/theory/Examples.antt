@@ -7,24 +7,24 @@ use Prim.Native.Nat.{ℕ, _<_}
 use native.Mathlib.Decide.{ℕ-discrete}
 use lib.ListN.{length, getD, replicate}
 use Rattle.base.proofs.Map.{map-at}
-use Rattle.base.specs.Lists.{first, firstFrom, grow}
-use Rattle.term.specs.Table.{decoded}
+use Rattle.base.specs.Words.{first, firstFrom, grow}
+use Rattle.term.specs.Term.{decoded}
 use Rattle.term.specs.Reduce.{op, cancelled, parted, paired}
 use Rattle.term.specs.Computed.{match?, isKey?, ruleTakesApart}
 use Rattle.term.specs.Number.{shapeOf, headOf, wordOf, hasOne}
 use Rattle.base.specs.Answer.{Answer, done, refused, pageAfter}
 use Rattle.submission.specs.Record.{start, secondAt}
 use Rattle.submission.specs.{Record.recordAt, Record.term, Computed.areInverse}
-use Rattle.submission.specs.Way.{wayOf}
+use Rattle.submission.specs.Check.{wayOf}
 use Rattle.base.specs.Computed.{any}
-use Rattle.derivation.specs.Register.{registerTerm}
+use Rattle.derivation.specs.Step.{registerTerm}
 use Rattle.derivation.specs.{Computed.badStep, Computed.unfounded, Computed.checkSteps}
 use Rattle.deduction.specs.Computed.{builtWithin, round, rounds, entryMarks, isDeducible}
 use Rattle.program.specs.Program.{relationOf, instructionBytes, bytesOf, instructionAt}
 use Rattle.machine.specs.Run.{guessed, initial, executed, registers, signals, signal}
 use Rattle.text.specs.Text.{digits, stepLine, testLine, stepLines, answerText}
 use Rattle.conditions.specs.Computed.{reachable, samePremises, undoesStep, undone, checks1to10, checkAnswer}
-use Rattle.conditions.specs.Check.{lowest, instruction, program}
+use Rattle.conditions.specs.Calls.{lowest, instruction, program}
 use Rattle.checker.specs.Calls.{verdictText}
 use Rattle.submission.specs.Computed.{badContents, badTerm, badKnowledge, goodClaim, checks1to4, checks1to5}
 use Rattle.program.specs.Computed.{badInstruction, badTest, badProgram}

@@ -6,19 +6,18 @@ use Prim.Native.Nat.{ℕ, _≤_}
 use lib.ListN.{length, take}
 use Rattle.base.specs.declared.Answer.{Answer as AnswerGiven}
 use Rattle.base.specs.declared.Answer.the-variants as given
-use Rattle.base.specs.Answer.{Answer, done, refused, pageAfter, Clear, Refuses}
-use Rattle.base.specs.Lists.{Bytes}
-use Rattle.base.specs.Calls.{answerOf}
+use Rattle.base.specs.Answer.{Answer, done, refused, pageAfter, Clear, Refuses, answerOf}
+use Rattle.base.specs.Words.{Bytes}
 use Rattle.term.specs.Step.{Deducible}
 use Rattle.submission.specs.Record.{steps, guess, nameAt, term, InKnowledge}
-use Rattle.deduction.specs.{Calls.Deduced, Deduce.deducibleRows}
+use Rattle.deduction.specs.{Deduce.deducibleRows, Computed.deducibleAnswer}
 use Rattle.deduction.proofs.theory.DeducibleAnswer.{deducible-exact, yes-exact, no-exact}
 use Rattle.program.specs.Program.{bytesOf, programLength}
-use Rattle.machine.specs.{Calls.Ran, Run.runRows, Run.signal, Computed.runAnswer}
+use Rattle.machine.specs.{Run.runRows, Run.signal, Computed.runAnswer}
 use Rattle.machine.proofs.theory.RunAnswer.{run-exact}
 use Rattle.conditions.specs.declared.Verdict.{Verdict}
 use Rattle.conditions.specs.declared.Verdict.the-variants.{Accepted, Refused}
-use Rattle.conditions.specs.{Calls.verdictAnswer, Calls.Checked, Check.program, Condition.WellFormed, Condition.FiveConditions, Condition.checkRows, Demand.WrongGuess, Demand.KeptPromise}
+use Rattle.conditions.specs.{Calls.verdictAnswer, Calls.Checked, Calls.program, Condition.WellFormed, Condition.FiveConditions, Condition.checkRows, Demand.WrongGuess, Demand.KeptPromise}
 use Rattle.conditions.proofs.theory.{Acceptance.accepted-iff, Promise.demand-3, Refusal.check-exact}
 
 -- a verdict and an answer tell what they stand for
@@ -61,7 +60,7 @@ module _ (s page page′ : List ℕ) (v : Verdict) (bytes : Bytes s) (call : Che
       subst (KeptPromise s page n) (sym (call .bytes)) (demand-3 s page bytes n (returned-verdict v (Accepted n) (call .answer) .0 e))
 
   -- and a call of `run` with what an acceptance left, the same submission and a name, that returned r
-  module _ (n name : ℕ) (accepted : v ≡ Accepted n) (r : AnswerGiven) (ran : Ran s name (take (programLength n) page′) r) where
+  module _ (n name : ℕ) (accepted : v ≡ Accepted n) (r : AnswerGiven) (ran : answerOf r ≡ runAnswer s name (take (programLength n) page′)) where
     pub run-right : name ≡ nameAt s (guess s) → r ≡ given.Done 1
     run-right e = returned r (given.Done 1) ran .1 (ap (λ k. runAnswer s k (take (programLength n) page′)) e ∙ call-keeps n accepted .right)
 
@@ -69,7 +68,7 @@ module _ (s page page′ : List ℕ) (v : Verdict) (bytes : Bytes s) (call : Che
     run-wrong w = returned r (given.Done 0) ran .1 (call-keeps n accepted .wrong name w)
 
 -- ---- a call of `run` on s, a name and any program P that returned r
-module _ (s P : List ℕ) (name : ℕ) (r : AnswerGiven) (call : Ran s name P r) where
+module _ (s P : List ℕ) (name : ℕ) (r : AnswerGiven) (call : answerOf r ≡ runAnswer s name P) where
   pub run-refuses : (n p : ℕ) → (r ≡ given.Refused n p) ↔ Refuses (runRows s P) n p
   run-refuses n p = Iff·trans (returned r (given.Refused n p) call) (run-exact s P name (refused n p))
 
@@ -77,7 +76,7 @@ module _ (s P : List ℕ) (name : ℕ) (r : AnswerGiven) (call : Ran s name P r)
   run-signals n = Iff·trans (returned r (given.Done n) call) (run-exact s P name (done n))
 
 -- ---- a call of `deducible` on s and the number t that returned r
-module _ (s : List ℕ) (t : ℕ) (r : AnswerGiven) (bytes : Bytes s) (call : Deduced s t r) where
+module _ (s : List ℕ) (t : ℕ) (r : AnswerGiven) (bytes : Bytes s) (call : answerOf r ≡ deducibleAnswer s t) where
   pub deducible-refuses : (n p : ℕ) → (r ≡ given.Refused n p) ↔ Refuses (deducibleRows s t) n p
   deducible-refuses n p = Iff·trans (returned r (given.Refused n p) call) (deducible-exact s bytes t (refused n p))
 

@@ -9,9 +9,9 @@ use native.Mathlib.Omega.{arith}
 use lib.Dec.{eqb, ltb, lit<, lit≤}
 use lib.ListN.{length, take}
 use Rattle.base.proofs.Says.{says-eqb, says-ltb, says-and, says-not, says-true}
-use Rattle.base.specs.Lists.{first, firstFrom, grow, Bytes}
+use Rattle.base.specs.Words.{first, firstFrom, grow, Bytes}
 use Rattle.term.specs.Computed.{isPart}
-use Rattle.term.specs.Table.{decoded}
+use Rattle.term.specs.Term.{decoded}
 use Rattle.base.specs.Answer.{done, pageAfter}
 use Rattle.submission.specs.Record.{start, guess, nameAt, term, recordAt}
 use Rattle.term.specs.Number.{shapeOf}
@@ -23,7 +23,7 @@ use Rattle.conditions.specs.Demand.{WrongGuess, KeptPromise}
 use Rattle.checker.proofs.theory.Examples.{Example, m1, m3, m8, got, want, example-right}
 use Rattle.conditions.proofs.theory.Acceptance.{accepted-iff}
 use Rattle.conditions.proofs.theory.Promise.{demand-3}
-use Rattle.conditions.specs.Check.{program}
+use Rattle.conditions.specs.Calls.{program}
 use Rattle.base.specs.Computed.{any}
 use Rattle.machine.specs.Computed.{runAnswer}
 use Rattle.conditions.specs.Computed.{checkAnswer}

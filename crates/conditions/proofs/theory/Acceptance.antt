@@ -7,9 +7,9 @@ use Prim.Native.Nat.{ℕ, _<_, _≤_}
 use borrow.Author.Tests.{ltb-false, le-ltb}
 use Rattle.base.proofs.Says.{not-not-false, none-fails}
 use Rattle.base.specs.Answer.{done}
-use Rattle.base.specs.Lists.{Bytes, first}
+use Rattle.base.specs.Words.{Bytes, first}
 use Rattle.submission.specs.Record.{steps, wayAt, verifying}
-use Rattle.submission.specs.Way.{wayOf}
+use Rattle.submission.specs.Check.{wayOf}
 use Rattle.base.specs.Computed.{passes, failsIf, failsAt}
 use Rattle.base.proofs.AnswerLaws.{if-passes, at-passes, then-passes, answered-done}
 use Rattle.base.proofs.RefusalLaws.{passes-iff}

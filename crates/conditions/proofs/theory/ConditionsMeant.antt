@@ -11,10 +11,10 @@ use lib.Dec.{eqb}
 use Rattle.base.proofs.Says.{Says, says-eqb, says-and, says-or, says-not, denies, and-false}
 use Rattle.term.specs.Term.{Term}
 use Rattle.term.specs.Number.{headOf}
-use Rattle.term.specs.Step.{Deducible}
+use Rattle.term.specs.Step.{Deducible, Undoes}
 use Rattle.term.proofs.Rule.{head-inj, says-takes-apart}
 use Rattle.submission.specs.Record.{terms, steps, ruleAt, pAt, conclusionAt, entryAt, guess, verifying, wayAt, companion, term, InKnowledge, secondAt}
-use Rattle.submission.specs.Way.{Way, another-step, at-start, inverse-key, wayOf, row, InRange}
+use Rattle.submission.specs.Check.{Way, another-step, at-start, inverse-key, wayOf, row, InRange}
 use Rattle.submission.proofs.theory.ListedTerms.{Claimed}
 use Rattle.derivation.specs.Computed.{isKnown, unfounded}
 use Rattle.derivation.proofs.theory.StepMeaning.{second-listed, says-known-term, founded-terms}
@@ -22,7 +22,8 @@ use Rattle.deduction.specs.Computed.{entryMarks, isDeducible}
 use Rattle.deduction.proofs.theory.Exactness.{deducible-iff}
 use Rattle.conditions.specs.Computed.{reachable, isPremise, samePremises, hasSecondWay, undoesStep, companionUndoes, undone}
 use Rattle.derivation.specs.Step.{rule, firstPremise, secondPremise, concluded, Known, StepFits, Premise}
-use Rattle.conditions.specs.Condition.{Differs, SecondWay, UndoneBy, Undone}
+use Rattle.conditions.specs.Condition.{SecondWay, Undone}
+use Rattle.conditions.specs.Code.{Differs}
 
 -- before step 0 the knowledge and the guess are known
 known-at-start : (s : List ℕ) (t : Term) → Known s 0 t ↔ (InKnowledge s t ⊎ (t ≡ term s (guess s)))
@@ -116,7 +117,7 @@ module _ {s : List ℕ} (c : Claimed s) (sound : (i : ℕ) → i < steps s → S
   second-way-iff = rw (c .has-way) (says-way (c .way) (c .in-range))
 
   -- ---- condition 5
-  says-undoes : (j i : ℕ) → j < steps s → i < steps s → Says (undoesStep s j i) (UndoneBy s j i)
+  says-undoes : (j i : ℕ) → j < steps s → i < steps s → Says (undoesStep s j i) (Undoes (rule s j) (firstPremise s j) (concluded s j) (rule s i) (firstPremise s i) (concluded s i))
   unfolding undoesStep
   says-undoes j i m l =
       let x = sound j m in
@@ -127,7 +128,7 @@ module _ {s : List ℕ} (c : Claimed s) (sound : (i : ℕ) → i < steps s → S
 
   -- the companion counts in way a only
   says-companion : (w : Way) → InRange s (row w .companion) (companion s) → (i : ℕ) → i < steps s →
-      Says (companionUndoes s (some w) i) ((some w ≡ some another-step) × UndoneBy s (companion s) i)
+      Says (companionUndoes s (some w) i) ((some w ≡ some another-step) × Undoes (rule s (companion s)) (firstPremise s (companion s)) (concluded s (companion s)) (rule s i) (firstPremise s i) (concluded s i))
   says-companion another-step l i m = let u = says-undoes (companion s) i l m in (λ e. (refl, u .0 e), λ (_, x). u .1 x)
   says-companion at-start l i m = (λ e. absurd (false≢true e), λ (e, x). absurd (let z : _≡_ {A = ℕ} 0 1 = cc in omega arith))
   says-companion inverse-key l i m = (λ e. absurd (false≢true e), λ (e, x). absurd (let z : _≡_ {A = ℕ} 0 1 = cc in omega arith))
@@ -136,9 +137,12 @@ module _ {s : List ℕ} (c : Claimed s) (sound : (i : ℕ) → i < steps s → S
   pub says-undone : (i : ℕ) → i < steps s → Says (undone s i) (Undone s i)
   unfolding undone
   says-undone i l =
-      let w : Says (companionUndoes s (wayOf (wayAt s)) i) ((wayOf (wayAt s) ≡ some another-step) × UndoneBy s (companion s) i) =
+      let w : Says (companionUndoes s (wayOf (wayAt s)) i) ((wayOf (wayAt s) ≡ some another-step) × Undoes (rule s (companion s)) (firstPremise s (companion s)) (concluded s (companion s)) (rule s i) (firstPremise s i) (concluded s i)) =
       rw (c .has-way) (says-companion (c .way) (c .in-range) i l) in
-      says-or _ _ (says-undoes (verifying s) i (c .verifying-below) l) w
+      Iff·trans (says-or _ _ (says-undoes (verifying s) i (c .verifying-below) l) w) (
+        ⊎-elim (λ u. (verifying s, inl refl, u)) (λ (e, u). (companion s, inr (e, refl), u)),
+        λ (j, b, u). ⊎-elim (λ e. inl (rw (← e) u)) (λ (f, e). inr (f, rw (← e) u)) b,
+      )
 
   pub undone-iff : ((i : ℕ) → i < steps s → undone s i ≡ false) ↔ ((i : ℕ) → i < steps s → Undone s i → ⊥)
   undone-iff = (λ f i l. denies _ (says-undone i l) .0 (f i l), λ f i l. denies _ (says-undone i l) .1 (f i l))

@@ -2,19 +2,19 @@
 -- and every well-formed submission that meets the five conditions, with page enough, is accepted.
 use mathlib.Core.Path.{_≡_, refl, ap, sym, _∙_}
 use mathlib.Core.List.{List, _++_}
-use Prim.Native.Nat.{ℕ}
+use Prim.Native.Nat.{ℕ, _≤_}
 use lib.ListN.{length, take, drop}
 use lib.Seq.{take-at, drop-at}
 use Rattle.base.specs.Answer.{done, pageAfter}
-use Rattle.base.specs.Lists.{Bytes}
+use Rattle.base.specs.Words.{Bytes}
 use Rattle.base.proofs.RefusalLaws.{passes-iff}
 use Rattle.submission.specs.Record.{steps, guess, nameAt}
 use Rattle.submission.proofs.theory.ReadingRows.{tells-1-to-5}
 use Rattle.program.specs.Program.{bytesOf, programLength}
 use Rattle.machine.specs.Run.{signal}
-use Rattle.conditions.specs.Check.{program}
+use Rattle.conditions.specs.Calls.{program}
 use Rattle.conditions.specs.Condition.{WellFormed, FiveConditions}
-use Rattle.conditions.specs.Demand.{Demand3, EveryGoodAccepted}
+use Rattle.conditions.specs.Demand.{Demand3}
 use Rattle.conditions.proofs.theory.Acceptance.{accepted-iff}
 use Rattle.conditions.proofs.theory.ProgramRun.{program-bytes}
 use Rattle.conditions.proofs.theory.Signal.{program-good, right-signal, wrong-signal}
@@ -47,5 +47,5 @@ demand-3 s page b n e =
     }
 
 -- and every well-formed submission that meets the five conditions, with page enough, is accepted
-pub every-good-accepted : EveryGoodAccepted
+pub every-good-accepted : (s : List ℕ) → Bytes s → (room : ℕ) → WellFormed s → FiveConditions s → programLength (steps s) ≤ room → checkAnswer s room ≡ done (steps s)
 every-good-accepted s b room w c l = accepted-iff s b room (steps s) .1 (refl, w, c, l)

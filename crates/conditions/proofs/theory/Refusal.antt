@@ -5,13 +5,13 @@ use mathlib.Core.Bool.{not}
 use mathlib.Core.List.{List, [], _∷_}
 use Prim.Native.Nat.{ℕ, _<_}
 use lib.{Dec.ltb, ListN.length}
-use Rattle.base.specs.Lists.{Bytes, first}
-use Rattle.base.specs.Answer.{Answer, refused, pageAfter, rowAt, rowAmong, Clear, Answers}
+use Rattle.base.specs.Words.{Bytes, first}
+use Rattle.base.specs.Answer.{Answer, refused, pageAfter, numbered, Clear, Answers}
 use Rattle.base.specs.Computed.{failsIf, failsAt, andThen}
 use Rattle.base.proofs.Says.{says-ltb, says-not}
 use Rattle.base.proofs.RefusalLaws.{Tells, passes-iff, tells-if, tells-at, tells-then, answers-iff}
 use Rattle.term.specs.{Term.Term, Step.Deducible}
-use Rattle.submission.specs.{Record.steps, Record.verifying, Record.wayAt, Record.InKnowledge, Way.wayOf, Computed.checks1to5}
+use Rattle.submission.specs.{Record.steps, Record.verifying, Record.wayAt, Record.InKnowledge, Check.wayOf, Computed.checks1to5}
 use Rattle.submission.proofs.theory.{ListedTerms.Claimed, ReadingRows.tells-1-to-5, ReadingRows.claimed-clear}
 use Rattle.derivation.specs.{Computed.checkSteps, Step.Premise, Step.StepFits, Step.rows6and7}
 use Rattle.derivation.proofs.theory.StepMeaning.{fits-iff, steps-pass, tells-6-and-7}
@@ -19,14 +19,14 @@ use Rattle.deduction.proofs.theory.DeducibleAnswer.{deducible-exact}
 use Rattle.program.specs.Program.{bytesOf, programLength}
 use Rattle.machine.proofs.theory.RunAnswer.{run-exact}
 use Rattle.conditions.specs.Computed.{reachable, hasSecondWay, undone, checks8to10, checks1to10, checkAnswer}
-use Rattle.conditions.specs.{Condition.SecondWay, Condition.Undone, Condition.checkRows, Check.program, Demand.Demand1}
+use Rattle.conditions.specs.{Condition.SecondWay, Condition.Undone, Condition.checkRows, Calls.program, Demand.Demand1}
 use Rattle.conditions.proofs.theory.ConditionsMeant.{says-reachable, second-way-iff, says-undone}
 
 -- ---- checking
 module _ (s : List ℕ) (b : Bytes s) where
   -- checks 8 to 10, of a claim and of steps that are right
   tells-8-to-10 : (c : Claimed s) → ((i : ℕ) → i < steps s → StepFits s i) →
-      Tells (checks8to10 s) (rowAt 8 (verifying s) ((x : Term) → Premise s (verifying s) x → Deducible (InKnowledge s) x) ∷ rowAt 9 (verifying s) (SecondWay s (wayOf (wayAt s)) → ⊥) ∷ rowAmong 10 (steps s) (Undone s) ∷ [])
+      Tells (checks8to10 s) (numbered 8 (λ p. (p ≡ verifying s) × ((x : Term) → Premise s (verifying s) x → Deducible (InKnowledge s) x)) ∷ numbered 9 (λ p. (p ≡ verifying s) × (SecondWay s (wayOf (wayAt s)) → ⊥)) ∷ numbered 10 (λ i. (i < steps s) × Undone s i) ∷ [])
   tells-8-to-10 c sound =
       tells-then (failsIf (reachable s) 8 (verifying s)) _ (tells-if (reachable s) 8 (verifying s) (says-reachable c sound)) (λ _.
       tells-then (failsIf (not (hasSecondWay s (wayOf (wayAt s)))) 9 (verifying s)) (failsAt 10 (first (undone s) (steps s)))

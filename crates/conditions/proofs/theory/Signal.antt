@@ -9,7 +9,7 @@ use native.Mathlib.Omega.{arith}
 use lib.Dec.{eqb, ltb}
 use lib.ListN.{length}
 use borrow.Author.Tests.{lt-ltb}
-use Rattle.base.specs.Lists.{listed, Bytes}
+use Rattle.base.specs.Words.{listed, Bytes}
 use Rattle.base.proofs.Grow.{length-listed, listed-at}
 use Rattle.base.proofs.Order.{lt-or-ge}
 use Rattle.base.proofs.Says.{says-and, says-true, denies}
@@ -21,9 +21,9 @@ use Rattle.term.proofs.Reduce.{step-op}
 use Rattle.term.proofs.Reach.{Reach, known, reach-iff}
 use Rattle.term.proofs.Guess.{UndoesSome, OutOfReach, FreshGuess, MayHold, clean, tried, Executed, op-may-hold, another-step-differs, at-start-differs, verified-no-key}
 use Rattle.submission.specs.{Record.entries, Record.steps, Record.entryAt, Record.ruleAt, Record.pAt, Record.qAt, Record.conclusionAt, Record.guess, Record.verifying, Record.wayAt, Record.companion, Record.nameAt, Record.term, Computed.areInverse, Record.InKnowledge}
-use Rattle.submission.specs.Way.{Way, another-step, at-start, inverse-key, wayOf}
+use Rattle.submission.specs.Check.{Way, another-step, at-start, inverse-key, wayOf}
 use Rattle.submission.proofs.theory.{ListedTerms.Claimed, ReadingRows.claimed-clear}
-use Rattle.derivation.specs.{Register.written, Computed.isKnown}
+use Rattle.derivation.specs.{Step.written, Computed.isKnown}
 use Rattle.submission.specs.Record.{secondAt}
 use Rattle.derivation.proofs.theory.{RegisterTerms.result-register, KnownPremises.first-known, KnownPremises.second-known}
 use Rattle.program.specs.Program.{relationOf, bytesOf}
@@ -31,13 +31,14 @@ use Rattle.machine.specs.Run.{atomKind, guessed, holds as relates, signals, sig
 use Rattle.program.proofs.theory.Bytes.{byte-count, test-back, program-passes}
 use Rattle.machine.proofs.theory.RunRegisters.{register-entry, register-guess, says-equal, says-inverse}
 use Rattle.conditions.specs.Computed.{hasSecondWay}
-use Rattle.conditions.specs.Condition.{WellFormed, FiveConditions, Differs, SecondWay, UndoneBy}
+use Rattle.conditions.specs.Condition.{WellFormed, FiveConditions, SecondWay}
 use Rattle.derivation.specs.Step.{rule, firstPremise, secondPremise, concluded}
-use Rattle.conditions.specs.Check.{lowest, instruction, program, testFor}
+use Rattle.conditions.specs.Calls.{lowest, instruction, program, testFor}
 use Rattle.conditions.specs.Demand.{WrongGuess}
 use Rattle.conditions.proofs.theory.ConditionsMeant.{founded-at, second-way-iff}
 use Rattle.conditions.proofs.theory.ProgramRun.{lowest-known, program-steps, value, result, same-operand, holds, holds-lowest}
 use Rattle.program.specs.Computed.{badInstruction, badTest, badProgram}
+use Rattle.conditions.specs.Code.{Differs}
 
 -- a step of the derivation
 abbrev InDerivation : List ℕ → Head → Term → Term → Term → Type 0
@@ -143,7 +144,7 @@ module _ (s : List ℕ) (bytes : Bytes s) (w : WellFormed s) (c : FiveConditions
   right-signal = rw (signal-asks s right, asked-right (wayOf (wayAt s)) refl (c .secondWay))
 
   -- ---- a wrong guess
-  undoes-none : (j : ℕ) → ((i : ℕ) → i < steps s → UndoneBy s j i → ⊥) → UndoesSome (InDerivation s) (rule s j) (firstPremise s j) (concluded s j) → ⊥
+  undoes-none : (j : ℕ) → ((i : ℕ) → i < steps s → Undoes (rule s j) (firstPremise s j) (concluded s j) (rule s i) (firstPremise s i) (concluded s i) → ⊥) → UndoesSome (InDerivation s) (rule s j) (firstPremise s j) (concluded s j) → ⊥
   undoes-none j f (h, p, q, t, (i, l, a, b, d, e), u) = f i l (subst₃ (Undoes (rule s j) (firstPremise s j) (concluded s j)) a b e u)
 
   out-of-reach : OutOfReach (InKnowledge s) (firstPremise s (verifying s)) (secondPremise s (verifying s))
@@ -200,20 +201,20 @@ module _ (s : List ℕ) (bytes : Bytes s) (w : WellFormed s) (c : FiveConditions
     asked-wrong (some another-step) e (l, f, d) =
         denies _ (says-equal _ _) .1 (λ z.
         another-step-differs (InKnowledge s) (InDerivation s) (term s (guess s)) (guessed s name) fresh-guess
-        (ran (verifying s) (c .present)) out-of-reach (undoes-none (verifying s) (λ i l u. c .kept i l (inl u)))
+        (ran (verifying s) (c .present)) out-of-reach (undoes-none (verifying s) (λ i l u. c .kept i l (verifying s, inl refl, u)))
         (subst (Ran (companion s)) f (ran (companion s) l))
-        (subst (λ t. UndoesSome (InDerivation s) (rule s (companion s)) (firstPremise s (companion s)) t → ⊥) f (undoes-none (companion s) (λ i l u. c .kept i l (inr (e, u)))))
+        (subst (λ t. UndoesSome (InDerivation s) (rule s (companion s)) (firstPremise s (companion s)) t → ⊥) f (undoes-none (companion s) (λ i l u. c .kept i l (companion s, inr (e, refl), u))))
         (unlike s (verifying s) (companion s) d)
         (sym verified-value ∙ sym z ∙ result s name (companion s) (steps s) l (omega arith)))
     asked-wrong (some at-start) e k =
         denies _ (says-equal _ _) .1 (λ z.
         at-start-differs (InKnowledge s) (InDerivation s) (term s (guess s)) (guessed s name) fresh-guess
-        (ran (verifying s) (c .present)) out-of-reach (undoes-none (verifying s) (λ i l u. c .kept i l (inl u)))
+        (ran (verifying s) (c .present)) out-of-reach (undoes-none (verifying s) (λ i l u. c .kept i l (verifying s, inl refl, u)))
         _ (at-start-value (steps s) _ (lowest-known s 0 _ (omega arith) (way-found e) .1)) (sym verified-value ∙ sym z))
     asked-wrong (some inverse-key) e z =
         denies _ (says-inverse _ _) .1 (λ (k, _).
         verified-no-key (InKnowledge s) (InDerivation s) (term s (guess s)) (guessed s name) fresh-guess
-        (ran (verifying s) (c .present)) out-of-reach (undoes-none (verifying s) (λ i l u. c .kept i l (inl u))) (subst isKey verified-value k))
+        (ran (verifying s) (c .present)) out-of-reach (undoes-none (verifying s) (λ i l u. c .kept i l (verifying s, inl refl, u))) (subst isKey verified-value k))
 
     pub wrong-signal : signal s name (bytesOf (program s)) ≡ 0
     wrong-signal = rw (signal-asks s name, asked-wrong (wayOf (wayAt s)) refl (c .secondWay))

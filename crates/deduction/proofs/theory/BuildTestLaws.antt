@@ -7,9 +7,8 @@ use Prim.Native.Nat.{ℕ, zero, suc, _<_}
 use native.Mathlib.Omega.{arith}
 use Rattle.base.proofs.BoolLaws.{or-left, or-right, and-both}
 use Rattle.base.proofs.Says.{Says, says-and, says-or, says-true}
-use Rattle.term.specs.Term.{make, Term}
+use Rattle.term.specs.Term.{make, Term, Rec, leaf, branch}
 use Rattle.term.specs.Code.{Message, Below}
-use Rattle.term.specs.Table.{Rec, leaf, branch}
 use Rattle.term.proofs.Deducibility.{Built, given, made, built-node}
 use Rattle.term.proofs.Table.{branch-of, node-of, part-below}
 use Rattle.submission.specs.Record.{terms, recordAt, term}

@@ -13,18 +13,25 @@ use Rattle.term.specs.Term.{Term}
 use Rattle.term.specs.Step.{Deducible}
 use Rattle.term.specs.Code.{Table}
 use Rattle.term.proofs.Table.{tables-agree}
-use Rattle.base.specs.Answer.{Answer, done, refused, rowAt, Clear, Answers}
-use Rattle.base.specs.Lists.{Bytes}
+use Rattle.base.specs.Answer.{Answer, done, refused, numbered, Clear, Answers}
+use Rattle.base.specs.Words.{Bytes}
 use Rattle.base.specs.Computed.{passes, failsIf}
-use Rattle.submission.specs.Record.{terms, entryAt, recordAt, term, InKnowledge}
+use Rattle.submission.specs.Record.{terms, entries, entryAt, recordAt, term, InKnowledge}
 use Rattle.base.proofs.RefusalLaws.{passes-iff, answers-iff, tells-if, tells-then, clear-split}
 use Rattle.submission.specs.Check.{rows1to4}
 use Rattle.submission.proofs.theory.ReadingRows.{tells-1-to-4}
 use Rattle.submission.proofs.theory.ListedTerms.{Listed, listed}
 use Rattle.deduction.specs.Computed.{entryMarks, isDeducible}
-use Rattle.deduction.specs.{Computed.Marked, Computed.deducibleAnswer, Deduce.deducibleRows, Deduce.DeducibleValue, Deduce.Alike}
+use Rattle.deduction.specs.{Computed.Marked, Computed.deducibleAnswer, Deduce.deducibleRows, Deduce.DeducibleValue}
 use Rattle.deduction.proofs.theory.Exactness.{deducible-from-iff, deducible-trans, deducible-iff}
 use Rattle.submission.specs.Computed.{checks1to4}
+
+-- two submissions alike in terms and knowledge, whatever their derivations and claims are
+pub record Alike (s s′ : List ℕ) : Type 0 where
+  pub same-terms : terms s ≡ terms s′
+  pub same-records : (n : ℕ) → n < terms s → recordAt s n ≡ recordAt s′ n
+  pub same-entries : entries s ≡ entries s′
+  pub same-knowledge : (i : ℕ) → i < entries s → entryAt s i ≡ entryAt s′ i
 
 alike-sym : {s s′ : List ℕ} → Alike s s′ → Alike s′ s
 alike-sym a = record {
@@ -75,10 +82,10 @@ deducible-exact s b n =
     answers-iff
     (tells-then (checks1to4 s) (failsIf (not (ltb n (terms s))) 12 0) (tells-1-to-4 s) (λ _. tells-if _ 12 0 (says-not-ltb n (terms s))))
     (cond (isDeducible s (entryMarks s) n) 1 0) (DeducibleValue s n)
-    (λ c. let (x, y) = clear-split (rows1to4 s) (rowAt 12 0 (terms s ≤ n) ∷ []) c in says-value _ (deducible-iff (listed s b (passes-iff (tells-1-to-4 s) .1 x)) n (below (y .0 12 0))))
+    (λ c. let (x, y) = clear-split (rows1to4 s) (numbered 12 (λ p. (p ≡ 0) × (terms s ≤ n)) ∷ []) c in says-value _ (deducible-iff (listed s b (passes-iff (tells-1-to-4 s) .1 x)) n (below (y .0 12 0))))
   where
-    below : (rowAt 12 0 (terms s ≤ n) 12 0 → ⊥) → n < terms s
-    below f = ⊎-elim (λ l. l) (λ l. absurd (f (refl, refl, l))) (lt-or-ge n (terms s))
+    below : (numbered 12 (λ p. (p ≡ 0) × (terms s ≤ n)) 12 0 → ⊥) → n < terms s
+    below f = ⊎-elim (λ l. l) (λ l. absurd (f (refl, (refl, l)))) (lt-or-ge n (terms s))
 
 -- yes and no
 module _ (s : List ℕ) (b : Bytes s) (n : ℕ) where

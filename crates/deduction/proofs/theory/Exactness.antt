@@ -8,13 +8,12 @@ use Prim.Native.Nat.{ℕ, zero, suc, _<_}
 use lib.Dec.{eqb}
 use lib.ListN.{length}
 use borrow.Author.Tests.{eq-eqb}
-use Rattle.base.specs.Lists.{listed}
+use Rattle.base.specs.Words.{listed}
 use Rattle.base.proofs.Says.{Says, says-eqb, says-and, says-or, says-any, says-true, same-test}
 use Rattle.base.proofs.BoolLaws.{or-left, or-right, and-both}
 use Rattle.base.proofs.Grow.{length-listed, listed-at}
-use Rattle.term.specs.Term.{Cipher, symmetric, asymmetric, left, right, pair, encryption, Head, make, part, decrypt, Term, node, Match}
+use Rattle.term.specs.Term.{Cipher, symmetric, asymmetric, left, right, pair, encryption, Head, make, part, decrypt, Term, node, Match, Rec, leaf, branch}
 use Rattle.term.specs.Step.{Deducible}
-use Rattle.term.specs.Table.{Rec, leaf, branch}
 use Rattle.term.proofs.Reduce.{picked, match-sym, key-is-atom}
 use Rattle.term.proofs.Reach.{Reach, known, reach-part, reach-opened, reach-reach, reach-iff}
 use Rattle.term.proofs.Deducibility.{Built, Analysed, built-reach, built-atom, reach-is-built}

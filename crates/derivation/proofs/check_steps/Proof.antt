@@ -4,7 +4,7 @@ use Prim.Native.Nat.{_-_}
 use borrow.Author.Needs.{needs}
 use Rattle.base.proofs.First.{Passed, passed-none}
 use Rattle.submission.specs.Record.{steps}
-use Rattle.derivation.specs.Register.{written}
+use Rattle.derivation.specs.Step.{written}
 use Rattle.derivation.specs.Code.{Registered}
 use Rattle.derivation.proofs.RegistersHeld.{result-written}
 use Rattle.derivation.proofs.StepReturns.{faulty, steps-go-on, steps-stop, steps-end}

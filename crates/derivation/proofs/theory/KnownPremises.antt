@@ -12,7 +12,7 @@ use Rattle.base.proofs.First.{first-some}
 use Rattle.base.proofs.FirstGrowing.{first-kept, any-first, any-more}
 use Rattle.submission.specs.Record.{steps, pAt, secondAt}
 use Rattle.derivation.specs.declared.Registers.{Registers}
-use Rattle.derivation.specs.{Register.written, Register.lowestAmong, Computed.knownAmong, Computed.isKnown}
+use Rattle.derivation.specs.{Step.written, Computed.lowestAmong, Computed.knownAmong, Computed.isKnown}
 use Rattle.derivation.specs.Computed.{unfounded}
 use Rattle.derivation.specs.Code.{RegisteredAmong}
 use Rattle.derivation.proofs.RegistersHeld.{held-lowest}

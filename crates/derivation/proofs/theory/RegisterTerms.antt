@@ -9,7 +9,7 @@ use borrow.Author.Tests.{lt-ltb, le-ltb, eq-eqb, ne-eqb}
 use Rattle.base.proofs.Order.{lt-or-ge}
 use Rattle.base.proofs.Says.{Says, says-eqb, says-true, says-and, says-any}
 use Rattle.submission.specs.Record.{entries, entryAt, guess, conclusionAt}
-use Rattle.derivation.specs.{Register.registerTerm, Register.written, Computed.holdsTerm, Computed.knownAmong, Computed.every, Computed.isKnown}
+use Rattle.derivation.specs.{Step.registerTerm, Step.written, Computed.holdsTerm, Computed.knownAmong, Computed.every, Computed.isKnown}
 
 module _ (s : List ℕ) where
   -- ---- the three sorts of registers

@@ -6,7 +6,7 @@ use mathlib.Core.List.{List, [], _∷_}
 use mathlib.Core.Option.{Option, none, some}
 use Prim.Native.Nat.{ℕ, _<_, _≤_}
 use native.Mathlib.Omega.{arith}
-use Rattle.base.specs.Lists.{first}
+use Rattle.base.specs.Words.{first}
 use Rattle.base.specs.Answer.{First}
 use Rattle.base.proofs.Order.{lt-or-ge}
 use Rattle.base.proofs.First.{first-none, first-some}
@@ -195,29 +195,29 @@ module _ {s : List ℕ} (c : Claimed s) where
 
   -- where no step before i is bad or unfounded, row 6 or 7 holds at no place before it
   none-before : (i : ℕ) → ((k : ℕ) → k < i → (badStep s k ≡ false) × (unfounded s k ≡ false)) → (m q : ℕ) → rows6and7 s m q → q < i → ⊥
-  none-before i before m q (inl (e, l, u)) b = denies _ (says-unfit q) .0 (before q b .0) u
-  none-before i before m q (inr (e, l, u)) b =
+  none-before i before m q (inl (e, (l, u))) b = denies _ (says-unfit q) .0 (before q b .0) u
+  none-before i before m q (inr (e, (l, u))) b =
       let f : (j : ℕ) → j < i → StepFits s j = λ j k. fits-iff (c .read) j .0 (before j k .0) in
       denies _ (says-unfounded c q (λ j k. f j (omega arith)) (f q b)) .0 (before q b .1) u
 
   -- the first step that is bad or unfounded: 6 where it is bad, else 7
   first-fault : (i : ℕ) → i < steps s → ((k : ℕ) → k < i → (badStep s k ≡ false) × (unfounded s k ≡ false)) → (b : Bool) → badStep s i ≡ b → (b ≡ false → unfounded s i ≡ true) →
       First (rows6and7 s) (cond b 6 7) i
-  first-fault i l before true e u = record { holds = inl (refl, l, says-unfit i .0 e); lowest = λ m q h. after m q h (lt-or-ge i q) }
+  first-fault i l before true e u = record { holds = inl (refl, (l, says-unfit i .0 e)); lowest = λ m q h. after m q h (lt-or-ge i q) }
     where
       after : (m q : ℕ) → rows6and7 s m q → (i < q) ⊎ (q ≤ i) → (i < q) ⊎ ((i ≡ q) × (6 ≤ m))
       after m q h (inl a) = inl a
-      after m q (inl (f, k, x)) (inr a) = ⊎-elim (λ b. absurd (none-before i before m q (inl (f, k, x)) b)) (λ b. inr (omega arith, omega arith)) (lt-or-ge q i)
-      after m q (inr (f, k, x)) (inr a) = ⊎-elim (λ b. absurd (none-before i before m q (inr (f, k, x)) b)) (λ b. inr (omega arith, omega arith)) (lt-or-ge q i)
+      after m q (inl (f, (k, x))) (inr a) = ⊎-elim (λ b. absurd (none-before i before m q (inl (f, (k, x))) b)) (λ b. inr (omega arith, omega arith)) (lt-or-ge q i)
+      after m q (inr (f, (k, x))) (inr a) = ⊎-elim (λ b. absurd (none-before i before m q (inr (f, (k, x))) b)) (λ b. inr (omega arith, omega arith)) (lt-or-ge q i)
   first-fault i l before false e u =
       let f : (j : ℕ) → j < i → StepFits s j = λ j k. fits-iff (c .read) j .0 (before j k .0) in
-      record { holds = inr (refl, l, says-unfounded c i f (fits-iff (c .read) i .0 e) .0 (u refl)); lowest = λ m q h. after m q h (lt-or-ge i q) }
+      record { holds = inr (refl, (l, says-unfounded c i f (fits-iff (c .read) i .0 e) .0 (u refl))); lowest = λ m q h. after m q h (lt-or-ge i q) }
     where
       after : (m q : ℕ) → rows6and7 s m q → (i < q) ⊎ (q ≤ i) → (i < q) ⊎ ((i ≡ q) × (7 ≤ m))
       after m q h (inl a) = inl a
-      after m q (inl (f, k, x)) (inr a) =
-          ⊎-elim (λ b. absurd (none-before i before m q (inl (f, k, x)) b)) (λ b. let z : q ≡ i = omega arith in absurd (denies _ (says-unfit q) .0 (rw z e) x)) (lt-or-ge q i)
-      after m q (inr (f, k, x)) (inr a) = ⊎-elim (λ b. absurd (none-before i before m q (inr (f, k, x)) b)) (λ b. inr (omega arith, omega arith)) (lt-or-ge q i)
+      after m q (inl (f, (k, x))) (inr a) =
+          ⊎-elim (λ b. absurd (none-before i before m q (inl (f, (k, x))) b)) (λ b. let z : q ≡ i = omega arith in absurd (denies _ (says-unfit q) .0 (rw z e) x)) (lt-or-ge q i)
+      after m q (inr (f, (k, x))) (inr a) = ⊎-elim (λ b. absurd (none-before i before m q (inr (f, (k, x))) b)) (λ b. inr (omega arith, omega arith)) (lt-or-ge q i)
 
   pub tells-6-and-7 : Tells (checkSteps s) (rows6and7 s ∷ [])
   unfolding checkSteps
@@ -230,8 +230,8 @@ module _ {s : List ℕ} (c : Claimed s) where
       }
         where
           below : (m q : ℕ) → rows6and7 s m q → q < steps s
-          below m q (inl (e, l, u)) = l
-          below m q (inr (e, l, u)) = l
+          below m q (inl (e, (l, u))) = l
+          below m q (inr (e, (l, u))) = l
       go (some i) f = record {
         refuses = λ n p e.
             let (l, h, k) = first-some _ _ i f in

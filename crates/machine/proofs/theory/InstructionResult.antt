@@ -8,8 +8,7 @@ use mir.Val.{Fits}
 use lib.Dec.{eqb}
 use lib.ListN.{getD}
 use Rattle.base.proofs.Grow.{listed-at}
-use Rattle.term.specs.Term.{Side, pair, encryption, Head, make, part, decrypt, Term, pick}
-use Rattle.term.specs.Table.{void}
+use Rattle.term.specs.Term.{Side, pair, encryption, Head, make, part, decrypt, Term, pick, void}
 use Rattle.term.specs.Reduce.{op, cancelled}
 use Rattle.term.specs.Number.{rules, headOf}
 use Rattle.term.specs.Code.{ruleOf}

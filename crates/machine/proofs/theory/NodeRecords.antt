@@ -3,9 +3,8 @@ use mathlib.Core.Path.{_≡_, refl, sym, ap, _∙_}
 use Prim.Native.Nat.{ℕ, _<_}
 use native.Mathlib.Omega.{arith}
 use borrow.Author.Tests.{lt-ltb}
-use Rattle.term.specs.Term.{Kind, plain, public, private, Head, Term, atom, node}
+use Rattle.term.specs.Term.{Kind, plain, public, private, Head, Term, atom, node, Rec, leaf, branch, message}
 use Rattle.term.specs.Number.{shapeOf}
-use Rattle.term.specs.Table.{Rec, leaf, branch, message}
 use Rattle.term.specs.Code.{ruleOf}
 use Rattle.term.proofs.Rule.{head-rule, rule-below}
 use Rattle.term.proofs.Table.{part-below, node-of, branch-of, leaf-of}

@@ -7,15 +7,13 @@ use Prim.Native.Nat.{ℕ, _+_, _<_}
 use native.Mathlib.Omega.{arith}
 use lib.Dec.{eqb}
 use borrow.Author.Tests.{lt-ltb, eq-eqb, ne-eqb}
-use Rattle.base.specs.Lists.{grow}
 use Rattle.base.proofs.Says.{Says, says-true, says-eqb, says-and, denies}
 use Rattle.term.specs.{Term.Cipher, Term.symmetric, Term.asymmetric, Term.Side, Term.left, Term.right, Term.pair, Term.encryption, Term.Head, Term.make, Term.part, Term.decrypt, Term.Term, Term.atom, Term.node, Computed.head?, Computed.term?, Term.Match}
-use Rattle.base.specs.Words.{ite}
-use Rattle.term.specs.Table.{Rec, leaf, branch, message}
+use Rattle.base.specs.Words.{ite, grow}
 use Rattle.term.specs.Code.{Below, ruleOf}
 use Rattle.term.specs.Computed.{match?}
 use Rattle.term.specs.Reduce.{cancelled, paired, parted, op}
-use Rattle.term.specs.Term.{pick}
+use Rattle.term.specs.Term.{pick, Rec, leaf, branch, message}
 use Rattle.term.specs.Number.{rules, headOf}
 use Rattle.term.proofs.Reduce.{says-test}
 use Rattle.term.proofs.Numbered.{same-below, Apart, Arms, choice}

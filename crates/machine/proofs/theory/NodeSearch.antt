@@ -8,12 +8,11 @@ use Prim.Native.Nat.{ℕ, _+_, _≤_, _<_}
 use lib.Dec.{eqb, leb}
 use lib.ListN.{length, set}
 use borrow.Author.Tests.{eq-eqb, ne-eqb, le-leb, lt-leb}
-use Rattle.base.specs.Lists.{first}
+use Rattle.base.specs.Words.{first}
 use Rattle.base.proofs.First.{Passed, passed-more, passed-hit, passed-all, first-none, first-some}
 use Rattle.base.proofs.Order.{lt-or-ge}
 use Rattle.base.proofs.Says.{Says, says-true, says-eqb, says-and}
-use Rattle.term.specs.Term.{public, private}
-use Rattle.term.specs.Table.{message}
+use Rattle.term.specs.Term.{public, private, message}
 use Rattle.machine.specs.declared.Node.{Node}
 use Rattle.machine.specs.declared.Machine.{Machine}
 use Rattle.machine.specs.declared.Found.{Found}

@@ -9,20 +9,19 @@ use native.Mathlib.Numerals.{add-one}
 use native.Mathlib.Omega.{arith}
 use lib.Dec.{eqb}
 use lib.ListN.{getD}
-use Rattle.base.specs.Lists.{grow, Bytes, byte}
+use Rattle.base.specs.Words.{grow, Bytes, byte}
 use Rattle.base.specs.declared.Stage.{Stage}
 use Rattle.submission.specs.declared.Claim.{Claim}
 use Rattle.submission.specs.declared.Reading.{Reading}
 use Rattle.submission.specs.declared.Reading.the-variants.{Refused}
 use Rattle.submission.specs.declared.Reading.the-variants as reading
 use Rattle.submission.specs.Code.{readingCheck, ReadingIs}
-use Rattle.base.specs.Answer.{Answer as Given, done, refused, Answers}
+use Rattle.base.specs.Answer.{Answer as Given, done, refused, Answers, answerOf}
 use Rattle.base.proofs.Says.{refutes}
 use Rattle.base.proofs.RefusalLaws.{tells-if, tells-then, answers-iff}
 use Rattle.submission.proofs.theory.ReadingRows.{tells-1-to-5}
 use Rattle.base.specs.Computed.{passes, failsIf, answered}
 use Rattle.base.specs.Code.{checkOf}
-use Rattle.base.specs.Calls.{answerOf}
 use Rattle.machine.specs.declared.Node.{Node}
 use Rattle.machine.specs.declared.Machine.{Machine}
 use Rattle.base.specs.declared.Answer.{Answer}

@@ -8,13 +8,12 @@ use lib.ListN.{length, getD, length-append, List·getD-append}
 use lib.Seq.{getD-at}
 use Rattle.base.proofs.Grow.{grow-kept, grow-at, length-listed, listed-at}
 use Rattle.base.proofs.Says.{Says}
-use Rattle.base.specs.Lists.{grow, listed}
+use Rattle.base.specs.Words.{grow, listed}
 use Rattle.term.specs.{Term.asymmetric, Term.Term, Computed.term?, Term.isKey, Term.inverse as inverse-of}
 use Rattle.term.specs.Computed.{match?}
-use Rattle.term.specs.Table.{void}
 use Rattle.term.proofs.Reduce.{says-test}
 use Rattle.submission.specs.Record.{entries, entryAt, term}
-use Rattle.term.specs.Term.{equal, inverses}
+use Rattle.term.specs.Term.{equal, inverses, void}
 use Rattle.program.specs.Program.{instructionAt}
 use Rattle.machine.specs.Run.{guessed, initial, executed, registers, holds}
 

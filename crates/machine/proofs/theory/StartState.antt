@@ -10,13 +10,12 @@ use mir.Syntax.{w8}
 use mir.Val.{Fits}
 use lib.ListN.{length, getD, set, length-set, length-append}
 use borrow.Author.Count.{below-more}
-use Rattle.base.specs.Lists.{grow}
+use Rattle.base.specs.Words.{grow}
 use Rattle.base.proofs.Grow.{length-listed}
-use Rattle.term.specs.Term.{Kind, plain, public, private, Shape, atomic, compound, atom}
+use Rattle.term.specs.Term.{Kind, plain, public, private, Shape, atomic, compound, atom, leaf, message, void, decoded}
 use Rattle.term.specs.{Number.shapeOf, Computed.kindOf}
 use Rattle.term.specs.Code.{isUnary, builderOf, Table}
 use Rattle.term.proofs.Kind.{shape-kind}
-use Rattle.term.specs.Table.{leaf, message, void, decoded}
 use Rattle.submission.specs.declared.Term.{Term as TermRead}
 use Rattle.submission.specs.Record.{terms, entries, entryAt, guess, kindAt, nameAt, recordAt, term}
 use Rattle.submission.specs.Code.{IsTerm}

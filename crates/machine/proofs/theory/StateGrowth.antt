@@ -10,9 +10,9 @@ use lib.ListN.{length, getD, set, List·getD-append}
 use lib.Seq.{getD-set-same, getD-set-other, getD-at}
 use borrow.Author.Count.{below-more}
 use borrow.Author.Tests.{eq-eqb}
-use Rattle.base.specs.Lists.{grow}
+use Rattle.base.specs.Words.{grow}
 use Rattle.base.proofs.Grow.{length-grow, grow-alike}
-use Rattle.term.specs.Table.{Rec, message, void, decoded}
+use Rattle.term.specs.Term.{Rec, message, void, decoded}
 use Rattle.term.specs.Code.{Below, Table}
 use Rattle.term.proofs.Table.{extended}
 use Rattle.machine.specs.declared.Node.{Node}

@@ -7,7 +7,7 @@ use native.Mathlib.Omega.{arith}
 use lib.ListN.{length, getD, length-append, List·getD-append}
 use lib.Seq.{getD-append-seam}
 use borrow.Author.Tests.{eq-eqb, ne-eqb, le-ltb}
-use Rattle.base.specs.Lists.{byte}
+use Rattle.base.specs.Words.{byte}
 use Rattle.base.proofs.First.{passed-not-any}
 use Rattle.submission.specs.Record.{entries}
 use Rattle.program.specs.Program.{Instruction, Program, instructionBytes, bytesOf, programLength, instructionAt, testAt}

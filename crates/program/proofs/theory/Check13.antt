@@ -9,7 +9,7 @@ use lib.Dec.{eqb, ltb}
 use lib.ListN.{length}
 use native.Mathlib.Omega.{arith}
 use borrow.Author.Tests.{eq-eqb, ne-eqb, lt-ltb, le-ltb, eqb-true, ltb-false}
-use Rattle.base.specs.Lists.{byte}
+use Rattle.base.specs.Words.{byte}
 use Rattle.base.proofs.First.{Passed}
 use Rattle.base.proofs.Scan.{true-any, false-any}
 use Rattle.base.proofs.Says.{Says, says-true, says-eqb, says-ltb, says-and, says-any, denies, not-not-false, or-false}

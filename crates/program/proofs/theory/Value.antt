@@ -6,7 +6,7 @@ use native.Mathlib.Omega.{arith}
 use lib.ListN.{length, getD, set, length-set}
 use lib.Seq.{getD-set-same, getD-set-other}
 use borrow.Author.Count.{below-more}
-use Rattle.base.specs.Lists.{listed}
+use Rattle.base.specs.Words.{listed}
 use Rattle.base.proofs.Grow.{length-listed, grow-alike}
 use Rattle.program.specs.declared.Instruction.{Instruction as InstructionRead}
 use Rattle.program.specs.declared.Test.{Test as TestRead}

@@ -7,7 +7,7 @@ use native.Mathlib.Omega.{arith}
 use lib.ListN.{length, set, drop}
 use lib.Seq.{sets, length-sets}
 use borrow.Rule.Slice.PartMut.{midOf, putMid}
-use Rattle.base.specs.Lists.{grow, listed}
+use Rattle.base.specs.Words.{grow, listed}
 use Rattle.base.proofs.Grow.{length-listed}
 use Rattle.base.proofs.Overwrite.{overwrite}
 use Rattle.base.proofs.Parts.{rest-lent, rest-back}

@@ -2,7 +2,7 @@
 use Prim.Native.Nat.{_-_, _*_}
 use mathlib.Core.Bool.{not}
 use lib.Dec.{eqb}
-use Rattle.base.specs.Lists.{byte}
+use Rattle.base.specs.Words.{byte}
 use Rattle.base.proofs.Scan.{scan}
 use Rattle.submission.proofs.ContentsTests.{letter-wrong, letter-right}
 use Rattle.base.proofs.First.{Passed}

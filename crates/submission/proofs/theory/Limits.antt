@@ -2,7 +2,7 @@
 use mathlib.Core.Path.{_≡_, refl}
 use mathlib.Core.List.{List, [], _∷_, map}
 use Prim.Native.Nat.{ℕ}
-use Rattle.base.specs.Lists.{first, firstFrom}
+use Rattle.base.specs.Words.{first, firstFrom}
 use Rattle.base.specs.Computed.{Check, passes, fails, failsAt}
 use Rattle.submission.specs.Computed.{badCount}
 

@@ -11,18 +11,16 @@ use lib.Dec.{ltb}
 use borrow.Author.Tests.{ltb-false}
 use Rattle.base.proofs.Order.{lt-or-ge}
 use Rattle.base.proofs.Says.{Says, says-true, says-eqb, says-ltb, says-and, says-or, not-not-false, or-false, none-fails}
-use Rattle.term.specs.Term.{Kind, plain, public, private, otherKind, asymmetric, Form, Second, absent, anything, keyFor, second, unary, make, Term, atom, node, isKey, inverse, Match, Shape, atomic, compound, shape, isKeyFor, Operands}
+use Rattle.term.specs.Term.{Kind, plain, public, private, otherKind, asymmetric, Form, Second, absent, anything, keyFor, second, unary, make, Term, atom, node, isKey, inverse, Match, Shape, atomic, compound, shape, isKeyFor, Operands, branch, message}
 use Rattle.term.specs.Code.{Message, Below, Table}
 use Rattle.term.specs.{Number.shapeOf, Computed.kindOf, Computed.inverseKinds}
 use Rattle.term.proofs.Kind.{kind-shape, shape-kind}
-use Rattle.term.specs.Table.{branch, message}
+use Rattle.base.specs.Words.{Bytes, first}
 use Rattle.term.proofs.Table.{decode-inj, decoded-reads}
 use Rattle.term.specs.Computed.{isAtomic}
-use Rattle.base.specs.Lists.{Bytes, first}
 use Rattle.base.specs.Computed.{passes, failsIf, failsAt}
 use Rattle.submission.specs.{Record.terms, Record.entries, Record.steps, Record.kindAt, Record.xAt, Record.yAt, Record.nameAt, Record.entryAt, Record.guess, Record.verifying, Record.wayAt, Record.companion, Record.recordOf, Record.recordAt, Record.term, Computed.areInverse}
-use Rattle.submission.specs.Way.{Way, another-step, at-start, inverse-key, wayOf, Range, step-number, term-number, zero-only, row, InRange}
-use Rattle.submission.specs.Check.{HasSecond, Shaped, ClaimFits}
+use Rattle.submission.specs.Check.{HasSecond, Shaped, ClaimFits, Way, another-step, at-start, inverse-key, wayOf, Range, step-number, term-number, zero-only, row, InRange}
 use Rattle.submission.specs.Computed.{badCount, badContents, inRange, claimFits, badTerm, badKnowledge, goodClaim, checks1to4, checks1to5}
 use Rattle.base.proofs.AnswerLaws.{if-passes, at-passes, then-passes}
 use Rattle.submission.proofs.theory.GoodRecord.{secondPart, second-below, Good, good, name-bytes, same-record}
@@ -250,11 +248,7 @@ says-ranges s (some w) =
 pub says-claim : (s : List ℕ) → Says (goodClaim s) (ClaimFits s)
 unfolding goodClaim
 says-claim s =
-    let u = says-and _ _ (says-ltb (guess s) (terms s)) (says-and _ _ (says-atomic (shapeOf (kindAt s (guess s)))) (says-ranges s (wayOf (wayAt s)))) in (
-      λ e. let (g, ((κ, k), (w, f, (v, i)))) = u .0 e in
-          record { guess-below = g; guess-kind = κ; guess-shape = k; way = w; has-way = f; step-in-range = v; companion-in-range = i },
-      λ c. u .1 (c .guess-below, ((c .guess-kind, c .guess-shape), (c .way, c .has-way, (c .step-in-range, c .companion-in-range)))),
-    )
+    says-and _ _ (says-ltb (guess s) (terms s)) (says-and _ _ (says-atomic (shapeOf (kindAt s (guess s)))) (says-ranges s (wayOf (wayAt s))))
 
 -- in every way the step is one of the derivation
 step-below : (s : List ℕ) (w : Way) (n : ℕ) → InRange s (row w .step) n → n < steps s
@@ -267,15 +261,15 @@ unfolding checks1to5
 claimed s b e =
     let (r, e5) = then-passes (checks1to4 s) (failsIf (not (goodClaim s)) 5 0) .0 e in
     let z = listed s b r in
-    let c = says-claim s .0 (not-not-false _ .0 (if-passes _ 5 0 .0 e5)) in
+    let (g, ((κ, k), (w, f, (v, i)))) = says-claim s .0 (not-not-false _ .0 (if-passes _ 5 0 .0 e5)) in
     record {
       read = z;
-      guess-below = c .guess-below;
-      guess-kind = c .guess-kind;
-      guess-shape = c .guess-shape;
-      guess-term = term-at s (z .bytes) (z .good) (z .table) (guess s) (atomic (c .guess-kind)) (c .guess-below) (c .guess-shape);
-      verifying-below = step-below s (c .way) _ (c .step-in-range);
-      way = c .way;
-      has-way = c .has-way;
-      in-range = c .companion-in-range;
+      guess-below = g;
+      guess-kind = κ;
+      guess-shape = k;
+      guess-term = term-at s (z .bytes) (z .good) (z .table) (guess s) (atomic κ) g k;
+      verifying-below = step-below s w _ v;
+      way = w;
+      has-way = f;
+      in-range = i;
     }

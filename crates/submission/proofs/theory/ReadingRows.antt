@@ -3,7 +3,7 @@ use mathlib.Core.Bool.{not, _||_}
 use mathlib.Core.List.{List}
 use Prim.Native.Nat.{ℕ, _+_, _*_}
 use lib.{Dec.eqb, Dec.ltb, ListN.length}
-use Rattle.base.specs.Lists.{byte, Bytes, first}
+use Rattle.base.specs.Words.{byte, Bytes, first}
 use Rattle.base.specs.Answer.{Clear}
 use Rattle.base.specs.Computed.{failsAt, failsIf}
 use Rattle.base.proofs.Says.{Says, says-eqb, says-ltb, says-not-ltb, says-or, says-not, says-any}

@@ -1,5 +1,5 @@
 -- `way_of` meets its contract: the table's letters.
-use Rattle.submission.specs.Way.{wayOf}
+use Rattle.submission.specs.Check.{wayOf}
 use Rattle.submission.proofs.ClaimTests.{no-way}
 use Rattle.submission.proofs.way_of.Statement.{statement}
 use Rattle.submission.proofs.way_of.Tie as tie

@@ -1,5 +1,5 @@
 -- The table of words is the rules' column, computed once.
-use Rattle.base.specs.Lists.{grow}
+use Rattle.base.specs.Words.{grow}
 use Rattle.term.specs.Number.{wordOf}
 use Rattle.text.proofs.LineReturns.{no-rule-put, rule-put}
 use borrow.Author.Needs.{needs}

@@ -2,8 +2,7 @@
 use Rattle.text.proofs.LineReturns.{steps-none, steps-more, steps-all}
 use borrow.Author.Needs.{needs}
 use Prim.Native.Nat.{_≤_, _-_}
-use Rattle.text.specs.Text.{stepLines}
-use Rattle.text.specs.Calls.{Puts}
+use Rattle.text.specs.Text.{stepLines, Puts}
 use Rattle.text.proofs.theory.PutLaws.{puts-length}
 use Rattle.text.proofs.put_steps.Statement.{statement}
 use Rattle.text.proofs.put_steps.Tie as tie

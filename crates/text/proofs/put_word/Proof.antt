@@ -2,7 +2,7 @@
 use borrow.Author.Needs.{needs}
 use Prim.Native.Nat.{_-_}
 use lib.ListN.{length, take}
-use Rattle.text.specs.Calls.{Puts}
+use Rattle.text.specs.Text.{Puts}
 use Rattle.text.proofs.theory.PutLaws.{puts-none, word-more, word-all, puts-length}
 use Rattle.text.proofs.put_word.Statement.{statement}
 use Rattle.text.proofs.put_word.Tie as tie

@@ -6,8 +6,7 @@ use Prim.Native.Nat.{ℕ, zero, suc, _+_, _/_, _%_, _≤_, _<_}
 use native.Mathlib.Omega.{arith}
 use borrow.Author.Tests.{lt-ltb, le-ltb}
 use Rattle.base.proofs.Order.{lt-or-ge}
-use Rattle.text.specs.Text.{digits, decimal}
-use Rattle.text.specs.Calls.{Puts}
+use Rattle.text.specs.Text.{digits, decimal, Puts}
 use Rattle.text.proofs.theory.PutLaws.{puts-then}
 
 pub digits-one : (f n : ℕ) → n < 10 → digits (suc f) n ≡ (0x30 + n) ∷ []

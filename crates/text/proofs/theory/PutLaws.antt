@@ -9,7 +9,7 @@ use native.Mathlib.Omega.{arith}
 use lib.ListN.{length, getD, set, take, drop, length-append, take-append-drop, drop-of-length-le}
 use lib.Seq.{sets, sets-eq, length-sets, set-out, take-append-seam, take-suc, take-all, length-take-le}
 use Rattle.base.proofs.Order.{lt-or-ge}
-use Rattle.text.specs.Calls.{Puts}
+use Rattle.text.specs.Text.{Puts}
 
 -- past the end nothing is stored
 sets-past : (l : List ℕ) (i : ℕ) (vs : List ℕ) → length l ≤ i → sets l i vs ≡ l

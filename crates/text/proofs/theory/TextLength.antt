@@ -12,11 +12,10 @@ use Rattle.base.proofs.Order.{lt-or-ge}
 use Rattle.term.specs.Number.{hasOne}
 use Rattle.term.proofs.Rule.{word-length}
 use Rattle.base.specs.Answer.{done}
-use Rattle.base.specs.Lists.{byte, Bytes}
+use Rattle.base.specs.Words.{byte, Bytes}
 use Rattle.term.specs.Term.{Relation, equal, inverses}
 use Rattle.program.specs.Program.{relationOf, relationWord, Instruction, instructionAt, testAt}
-use Rattle.text.specs.Text.{digits, registerText, secondText, stepLine, stepLines, testLine, refusedText, answerText}
-use Rattle.text.specs.Calls.{Puts}
+use Rattle.text.specs.Text.{digits, registerText, secondText, stepLine, stepLines, testLine, refusedText, answerText, Puts}
 use Rattle.text.proofs.theory.PutLaws.{puts-whole}
 use Rattle.text.proofs.theory.Decimal.{digits-one, digits-more}
 

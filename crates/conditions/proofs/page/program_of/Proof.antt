@@ -2,7 +2,7 @@
 use Prim.Native.Nat.{_-_, _≤_}
 use native.Mathlib.Omega.{arith}
 use Rattle.program.proofs.theory.Value.{Holds, holds-none}
-use Rattle.conditions.specs.Check.{instruction}
+use Rattle.conditions.specs.Calls.{instruction}
 use Rattle.conditions.proofs.ProgramValue.{step-within, step-held, all-held}
 use borrow.Author.Needs.{needs}
 use Rattle.conditions.proofs.page.program_of.Statement.{statement}
