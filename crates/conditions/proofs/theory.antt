@@ -5,3 +5,4 @@ pub mod ProgramRun
 pub mod Promise
 pub mod Refusal
 pub mod Signal
+pub mod WrongGuesses

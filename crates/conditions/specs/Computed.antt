@@ -4,10 +4,11 @@ use mathlib.Core.{Bool.Bool, Bool.false, Bool._&&_, Bool._||_, Bool.not, List.Li
 use Prim.Native.Nat.{ℕ}
 use lib.Dec.{eqb}
 use Rattle.term.specs.Computed.{ruleTakesApart}
-use Rattle.submission.specs.{Record.steps, Record.ruleAt, Record.pAt, Record.conclusionAt, Record.verifying, Record.wayAt, Record.companion, Computed.areInverse, Check.Way, Check.another-step, Check.at-start, Check.inverse-key, Check.wayOf, Check.row, Record.secondAt, Computed.checks1to5}
+use Rattle.submission.specs.{Record.steps, Record.ruleAt, Record.pAt, Record.conclusionAt, Record.verifying, Record.wayAt, Record.companion, Computed.areInverse, Check.Way, Check.another-step, Check.at-start, Check.inverse-key, Check.wayOf, Check.row, Record.secondAt, Record.guess, Record.nameAt, Computed.checks1to5, Computed.isFresh}
 use Rattle.derivation.specs.Computed.{isKnown, checkSteps}
 use Rattle.deduction.specs.Computed.{entryMarks, isDeducible}
 use Rattle.program.specs.Program.{programLength}
+use Rattle.machine.specs.Run.{guessed}
 use Rattle.base.specs.{Words.ltb, Words.first, Answer.Answer, Answer.done, Computed.Check, Computed.failsAt, Computed.failsIf, Computed.andThen, Computed.answered}
 
 -- condition 3 is broken: every premise of the verifying step is deducible from the knowledge, in which the guess does not count
@@ -65,3 +66,7 @@ checks1to10 s = andThen (checks1to5 s) (andThen (checkSteps s) (checks8to10 s))
 unfoldable pub checkAnswer : List ℕ → ℕ → Answer
 checkAnswer s room =
     answered (andThen (checks1to10 s) (failsIf (ltb room (programLength (steps s))) 11 (programLength (steps s)))) (done (steps s))
+
+-- a wrong guess, as a test (`says-wrong`)
+unfoldable pub isWrongGuess : List ℕ → ℕ → Bool
+isWrongGuess s name = not (eqb name (nameAt s (guess s))) && isFresh s (guessed s name)

@@ -1,23 +1,22 @@
 -- Demand 3 at document 01's examples M3, M1 and M8, one for each way: its hypotheses can be met, and so can those of a wrong guess.
 use mathlib.Core.Path.{_≡_, refl, ap, _∙_}
 use mathlib.Core.Logic.{Dec·and}
-use mathlib.Core.Bool.{Bool, true, _&&_, not}
+use mathlib.Core.Bool.{Bool, true, _&&_}
 use mathlib.Core.List.{List, [], _∷_}
 use Prim.Native.Nat.{ℕ, zero, suc, _≤_}
 use native.Mathlib.Decide.{ℕ-discrete}
 use native.Mathlib.Omega.{arith}
-use lib.Dec.{eqb, ltb, lit<, lit≤}
+use lib.Dec.{ltb, lit<, lit≤}
 use lib.ListN.{length, take}
-use Rattle.base.proofs.Says.{says-eqb, says-ltb, says-and, says-not, says-true}
+use Rattle.base.proofs.Says.{says-ltb, says-and, says-true}
 use Rattle.base.specs.Words.{first, firstFrom, grow, Bytes}
 use Rattle.term.specs.Computed.{isPart}
 use Rattle.term.specs.Term.{decoded}
 use Rattle.base.specs.Answer.{done, pageAfter}
-use Rattle.submission.specs.Record.{start, guess, nameAt, term, recordAt}
+use Rattle.submission.specs.Record.{start, term, recordAt}
 use Rattle.term.specs.Number.{shapeOf}
 use Rattle.program.specs.Program.{programLength, bytesOf}
 use Rattle.submission.specs.Computed.{isKnownPart, isFresh}
-use Rattle.submission.proofs.theory.FreshLaws.{says-fresh}
 use Rattle.machine.specs.Run.{guessed}
 use Rattle.conditions.specs.Demand.{WrongGuess, KeptPromise}
 use Rattle.checker.proofs.theory.Examples.{Example, m1, m3, m8, got, want, example-right}
@@ -26,7 +25,8 @@ use Rattle.conditions.proofs.theory.Promise.{demand-3}
 use Rattle.conditions.specs.Calls.{program}
 use Rattle.base.specs.Computed.{any}
 use Rattle.machine.specs.Computed.{runAnswer}
-use Rattle.conditions.specs.Computed.{checkAnswer}
+use Rattle.conditions.specs.Computed.{checkAnswer, isWrongGuess}
+use Rattle.conditions.proofs.theory.WrongGuesses.{says-wrong}
 
 -- ---- the hypotheses as tests
 areBytes : List ℕ → Bool
@@ -39,15 +39,6 @@ are-bytes [] e i = omega arith
 are-bytes (x ∷ xs) e zero = says-and _ _ (says-ltb x 256) (says-true (areBytes xs)) .0 e .0
 are-bytes (x ∷ xs) e (suc i) = are-bytes xs (says-and _ _ (says-ltb x 256) (says-true (areBytes xs)) .0 e .1) i
 
-isWrong : List ℕ → ℕ → Bool
-isWrong s name = not (eqb name (nameAt s (guess s))) && isFresh s (guessed s name)
-
-is-wrong : (s : List ℕ) (name : ℕ) → isWrong s name ≡ true → WrongGuess s name
-unfolding isWrong
-is-wrong s name e =
-    let (o, f) = says-and _ _ (says-not _ (says-eqb _ _)) (says-fresh s (guessed s name)) .0 e in
-    record { other = o; fresh = f }
-
 -- ---- the examples
 -- with any page of 388 bytes the example's acceptance with n keeps its promise, and this name is a wrong one and signals 0
 abbrev pub Shown : Example → ℕ → ℕ → Type 0
@@ -56,20 +47,20 @@ Shown e n name =
     KeptPromise (e .bytes) page n (pageAfter (checkAnswer (e .bytes) (length page)) (bytesOf (program (e .bytes))) page) × WrongGuess (e .bytes) name × (runAnswer (e .bytes) name (take (programLength n) (pageAfter (checkAnswer (e .bytes) (length page)) (bytesOf (program (e .bytes))) page)) ≡ done 0)
 
 -- it is enough that the example is accepted with a shorter page, and that the tests say so
-shown : (e : Example) (n name : ℕ) → got e ≡ want e → e .wanted .answer ≡ done n → e .length ≤ 388 →
-    areBytes (e .bytes) && isWrong (e .bytes) name ≡ true → Shown e n name
+shown : (e : Example) (n name : ℕ) → got e ≡ want e → e .wanted .answer ≡ done n → length (e .page) ≤ 388 →
+    areBytes (e .bytes) && isWrongGuess (e .bytes) name ≡ true → Shown e n name
 shown e n name g a l t page f =
     let s = e .bytes in
-    let (u, v) = says-and _ _ (says-true (areBytes s)) (says-true (isWrong s name)) .0 t in
+    let (u, v) = says-and _ _ (says-true (areBytes s)) (says-true (isWrongGuess s name)) .0 t in
     let b : Bytes s = are-bytes s u in
-    let z : WrongGuess s name = is-wrong s name v in
-    let (m, w, c, k) = accepted-iff s b (e .length) n .0 (ap (λ o. o .answer) g ∙ a) in
+    let z : WrongGuess s name = says-wrong s name .0 v in
+    let (m, w, c, k) = accepted-iff s b (length (e .page)) n .0 (ap (λ o. o .answer) g ∙ a) in
     let p : KeptPromise s page n (pageAfter (checkAnswer s (length page)) (bytesOf (program s)) page) = demand-3 s page b n (accepted-iff s b (length page) n .1 (m, w, c, omega arith)) in
     (p, z, p .wrong name z)
 
 -- one example for each way
 pub examples-shown : Shown m3 3 60000 × Shown m1 1 3 × Shown m8 1 9
-unfolding areBytes isWrong isFresh isKnownPart isPart any first firstFrom grow decoded start shapeOf recordAt term guessed Dec·and ℕ-discrete
+unfolding areBytes isWrongGuess isFresh isKnownPart isPart any first firstFrom grow decoded start shapeOf recordAt term guessed Dec·and ℕ-discrete
 examples-shown = (
   shown m3 3 60000 (example-right 2 (lit< tt)) refl (lit≤ tt) refl,
   shown m1 1 3 (example-right 0 (lit< tt)) refl (lit≤ tt) refl,
