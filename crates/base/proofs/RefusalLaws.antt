@@ -1,7 +1,7 @@
 -- Laws of refusals: checks that answer as rows of the table of verdicts say, one alone and one after the other; and that the rows then
 -- determine the answer.
-use mathlib.Core.Path.{_≡_, refl, sym, _∙_}
-use mathlib.Core.Logic.{_↔_, _⊎_, inl, inr, ⊎-elim}
+use mathlib.Core.Path.{_≡_, refl, sym, _∙_, subst}
+use mathlib.Core.Logic.{_↔_, inl, inr, ⊎-elim}
 use mathlib.Core.Bool.{Bool, true, false, true≢false, false≢true}
 use mathlib.Core.List.{List, [], _∷_, _++_}
 use mathlib.Core.Option.{Option, none, some}
@@ -65,9 +65,20 @@ module _ {c : Check} {rows : List (ℕ → ℕ → Type 0)} (t : Tells c rows) w
       (λ e. fails-iff n p .0 (f e), λ r. g (fails-iff n p .1 r))
 
 -- ---- one check alone
+-- a row holds first where it holds at no lower place, and at this place with no lower number
+pub first-of : {Row : ℕ → ℕ → Type 0} {n p : ℕ} → Row n p → ((m q : ℕ) → Row m q → q < p → ⊥) → ((m : ℕ) → Row m p → n ≤ m) → First Row n p
+first-of {Row} {n} {p} h before here = record {
+  holds = h;
+  lowest = λ m q r.
+      ⊎-elim (λ a. absurd (before m q r a)) (λ a. ⊎-elim (λ b. inl b) (λ b. let z : q ≡ p = omega arith in inr (sym z, here m (subst (Row m) z r))) (lt-or-ge p q)) (lt-or-ge q p);
+}
+
 pub tells-if : {A : Type 0} (b : Bool) (number place : ℕ) → Says b A → Tells (failsIf b number place) (numbered number (λ p. (p ≡ place) × A) ∷ [])
 tells-if {A} true number place s = record {
-  refuses = λ n p e. inl (record { holds = (cc, (cc, s .0 refl)); lowest = λ m q (f, (g, w)). inr (cc, (let z : n ≡ number = cc in omega arith)) });
+  refuses = λ n p e.
+      let x : n ≡ number = cc in
+      let y : p ≡ place = cc in
+      inl (first-of (x, (y, s .0 refl)) (λ m q (f, (g, w)) l. omega arith) (λ m (f, w). omega arith));
   clear = fails-not-passes;
 }
 tells-if {A} false number place s = record {
@@ -89,11 +100,7 @@ tells-at {A} number t bound s = go (first t bound) refl
           let (l, h, k) = first-some t bound i f in
           let x : n ≡ number = cc in
           let y : i ≡ p = cc in
-          inl (record {
-            holds = (x, (omega arith, rw (← y) (s i l .0 h)));
-            lowest = λ m q (g, (b, w)).
-                ⊎-elim (λ z. absurd (true≢false (sym (s q b .1 w) ∙ k q z))) (λ z. ⊎-elim (λ u. inl (omega arith)) (λ u. inr (omega arith, omega arith)) (lt-or-ge i q)) (lt-or-ge q i);
-          });
+          inl (first-of (x, (omega arith, rw (← y) (s i l .0 h))) (λ m q (g, (b, w)) z. true≢false (sym (s q b .1 w) ∙ k q (omega arith))) (λ m (g, w). omega arith));
       clear = fails-not-passes;
     }
 

@@ -1,5 +1,5 @@
 -- Conditions 3 to 5 as tests of term numbers, and the answer of checking. What each test says of terms is a theorem (`says-reachable`,
--- `says-second-way`, `says-undone`), and that the answer is as the rows say is another (`check-exact`).
+-- `second-way-iff`, `says-undone`), and that the answer is as the rows say is another (`check-exact`).
 use mathlib.Core.{Bool.Bool, Bool.false, Bool._&&_, Bool._||_, Bool.not, List.List, Option.Option, Option.none, Option.some}
 use Prim.Native.Nat.{ℕ}
 use lib.Dec.{eqb}

@@ -13,7 +13,7 @@ use Rattle.term.specs.Term.{Term}
 use Rattle.term.specs.Number.{headOf}
 use Rattle.term.specs.Step.{Deducible, Undoes}
 use Rattle.term.proofs.Rule.{head-inj, says-takes-apart}
-use Rattle.submission.specs.Record.{terms, steps, ruleAt, pAt, conclusionAt, entryAt, guess, verifying, wayAt, companion, term, InKnowledge, secondAt}
+use Rattle.submission.specs.Record.{terms, steps, ruleAt, pAt, conclusionAt, guess, verifying, wayAt, companion, term, InKnowledge, secondAt}
 use Rattle.submission.specs.Check.{Way, another-step, at-start, inverse-key, wayOf, row, InRange}
 use Rattle.submission.proofs.theory.ListedTerms.{Claimed}
 use Rattle.derivation.specs.Computed.{isKnown, unfounded}

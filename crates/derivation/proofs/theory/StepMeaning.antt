@@ -1,6 +1,6 @@
 -- Checks 6 and 7: a step that passes check 6 is a Dolev-Yao step of terms, and what passing both says of all steps.
 use mathlib.Core.Path.{_≡_, refl, sym, ap, ap₂, _∙_, subst}
-use mathlib.Core.Logic.{_↔_, _⊎_, inl, inr, ⊎-elim, Iff·trans}
+use mathlib.Core.Logic.{_↔_, inl, inr, ⊎-elim, Iff·trans}
 use mathlib.Core.Bool.{Bool, true, false, _||_, cond, false≢true}
 use mathlib.Core.List.{List, [], _∷_}
 use mathlib.Core.Option.{Option, none, some}
@@ -8,10 +8,9 @@ use Prim.Native.Nat.{ℕ, _<_, _≤_}
 use native.Mathlib.Omega.{arith}
 use Rattle.base.specs.Words.{first}
 use Rattle.base.specs.Answer.{First}
-use Rattle.base.proofs.Order.{lt-or-ge}
 use Rattle.base.proofs.First.{first-none, first-some}
 use Rattle.base.proofs.Says.{Says, says-true, says-eqb, says-ltb, says-and, says-not-both, refutes, denies, not-not-false, or-false, or-other, none-fails}
-use Rattle.base.proofs.RefusalLaws.{Tells}
+use Rattle.base.proofs.RefusalLaws.{Tells, first-of}
 use Rattle.term.specs.Term.{Cipher, symmetric, asymmetric, Side, left, right, pair, encryption, unary, Head, make, part, decrypt, Term, node, single, Match, compound, second, Second, absent, anything, keyFor, pick}
 use Rattle.term.specs.Code.{Message}
 use Rattle.term.specs.Computed.{kindOf}
@@ -201,23 +200,21 @@ module _ {s : List ℕ} (c : Claimed s) where
       denies _ (says-unfounded c q (λ j k. f j (omega arith)) (f q b)) .0 (before q b .1) u
 
   -- the first step that is bad or unfounded: 6 where it is bad, else 7
-  first-fault : (i : ℕ) → i < steps s → ((k : ℕ) → k < i → (badStep s k ≡ false) × (unfounded s k ≡ false)) → (b : Bool) → badStep s i ≡ b → (b ≡ false → unfounded s i ≡ true) →
-      First (rows6and7 s) (cond b 6 7) i
-  first-fault i l before true e u = record { holds = inl (refl, (l, says-unfit i .0 e)); lowest = λ m q h. after m q h (lt-or-ge i q) }
-    where
-      after : (m q : ℕ) → rows6and7 s m q → (i < q) ⊎ (q ≤ i) → (i < q) ⊎ ((i ≡ q) × (6 ≤ m))
-      after m q h (inl a) = inl a
-      after m q (inl (f, (k, x))) (inr a) = ⊎-elim (λ b. absurd (none-before i before m q (inl (f, (k, x))) b)) (λ b. inr (omega arith, omega arith)) (lt-or-ge q i)
-      after m q (inr (f, (k, x))) (inr a) = ⊎-elim (λ b. absurd (none-before i before m q (inr (f, (k, x))) b)) (λ b. inr (omega arith, omega arith)) (lt-or-ge q i)
-  first-fault i l before false e u =
-      let f : (j : ℕ) → j < i → StepFits s j = λ j k. fits-iff (c .read) j .0 (before j k .0) in
-      record { holds = inr (refl, (l, says-unfounded c i f (fits-iff (c .read) i .0 e) .0 (u refl))); lowest = λ m q h. after m q h (lt-or-ge i q) }
-    where
-      after : (m q : ℕ) → rows6and7 s m q → (i < q) ⊎ (q ≤ i) → (i < q) ⊎ ((i ≡ q) × (7 ≤ m))
-      after m q h (inl a) = inl a
-      after m q (inl (f, (k, x))) (inr a) =
-          ⊎-elim (λ b. absurd (none-before i before m q (inl (f, (k, x))) b)) (λ b. let z : q ≡ i = omega arith in absurd (denies _ (says-unfit q) .0 (rw z e) x)) (lt-or-ge q i)
-      after m q (inr (f, (k, x))) (inr a) = ⊎-elim (λ b. absurd (none-before i before m q (inr (f, (k, x))) b)) (λ b. inr (omega arith, omega arith)) (lt-or-ge q i)
+  module _ (i : ℕ) (l : i < steps s) (before : (k : ℕ) → k < i → (badStep s k ≡ false) × (unfounded s k ≡ false)) where
+    fault-at : (b : Bool) → badStep s i ≡ b → (b ≡ false → unfounded s i ≡ true) → rows6and7 s (cond b 6 7) i
+    fault-at true e u = inl (refl, (l, says-unfit i .0 e))
+    fault-at false e u =
+        let f : (j : ℕ) → j < i → StepFits s j = λ j k. fits-iff (c .read) j .0 (before j k .0) in
+        inr (refl, (l, says-unfounded c i f (fits-iff (c .read) i .0 e) .0 (u refl)))
+
+    lowest-number : (b : Bool) → badStep s i ≡ b → (m : ℕ) → rows6and7 s m i → cond b 6 7 ≤ m
+    lowest-number true e m (inl (f, w)) = omega arith
+    lowest-number true e m (inr (f, w)) = omega arith
+    lowest-number false e m (inl (f, (k, x))) = absurd (denies _ (says-unfit i) .0 e x)
+    lowest-number false e m (inr (f, w)) = omega arith
+
+    first-fault : (badStep s i ≡ false → unfounded s i ≡ true) → First (rows6and7 s) (cond (badStep s i) 6 7) i
+    first-fault u = first-of (fault-at (badStep s i) refl u) (none-before i before) (lowest-number (badStep s i) refl)
 
   pub tells-6-and-7 : Tells (checkSteps s) (rows6and7 s ∷ [])
   unfolding checkSteps
@@ -237,6 +234,6 @@ module _ {s : List ℕ} (c : Claimed s) where
             let (l, h, k) = first-some _ _ i f in
             let x : cond (badStep s i) 6 7 ≡ n = cc in
             let y : i ≡ p = cc in
-            inl (subst (λ q. First (rows6and7 s) n q) y (subst (λ m. First (rows6and7 s) m i) x (first-fault i l (λ j b. or-false _ _ .0 (k j b)) (badStep s i) refl (λ z. or-other _ _ h z))));
+            inl (subst (λ q. First (rows6and7 s) n q) y (subst (λ m. First (rows6and7 s) m i) x (first-fault i l (λ j b. or-false _ _ .0 (k j b)) (λ z. or-other _ _ h z))));
         clear = fails-not-passes;
       }

@@ -7,7 +7,7 @@ use Prim.Native.Nat.{ℕ, _+_, _*_, _<_}
 use native.Mathlib.Omega.{arith}
 use lib.Dec.{eqb, ltb}
 use Rattle.base.proofs.Says.{Says, says-true, says-eqb, says-ltb, says-and, says-or, says-not, says-any, denies, not-not-false, or-false}
-use Rattle.term.specs.Term.{Form, Second, absent, anything, keyFor, second, unary, Shape, atomic, compound, isKeyFor}
+use Rattle.term.specs.Term.{Form, Second, absent, anything, keyFor, second, unary, Shape, atomic, compound}
 use Rattle.term.specs.Number.{shapeOf}
 use Rattle.submission.specs.Record.{kindAt, xAt, yAt, nameAt, recordOf}
 use Rattle.term.specs.Computed.{takes}

@@ -10,7 +10,7 @@ use native.Mathlib.Omega.{arith}
 use lib.Dec.{ltb}
 use borrow.Author.Tests.{ltb-false}
 use Rattle.base.proofs.Order.{lt-or-ge}
-use Rattle.base.proofs.Says.{Says, says-true, says-eqb, says-ltb, says-and, says-or, not-not-false, or-false, none-fails}
+use Rattle.base.proofs.Says.{Says, says-eqb, says-ltb, says-and, says-or, not-not-false, or-false, none-fails}
 use Rattle.term.specs.Term.{Kind, plain, public, private, otherKind, asymmetric, Form, Second, absent, anything, keyFor, second, unary, make, Term, atom, node, isKey, inverse, Match, Shape, atomic, compound, shape, isKeyFor, Operands, branch, message}
 use Rattle.term.specs.Code.{Message, Below, Table}
 use Rattle.term.specs.{Number.shapeOf, Computed.kindOf, Computed.inverseKinds}

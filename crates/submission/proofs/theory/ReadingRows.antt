@@ -1,8 +1,8 @@
 -- Checks 1 to 5 answer as rows 1 to 5 of the table of verdicts say.
-use mathlib.Core.Bool.{not, _||_}
+use mathlib.Core.Bool.{not}
 use mathlib.Core.List.{List}
 use Prim.Native.Nat.{ℕ, _+_, _*_}
-use lib.{Dec.eqb, Dec.ltb, ListN.length}
+use lib.{Dec.eqb, ListN.length}
 use Rattle.base.specs.Words.{byte, Bytes, first}
 use Rattle.base.specs.Answer.{Clear}
 use Rattle.base.specs.Computed.{failsAt, failsIf}
