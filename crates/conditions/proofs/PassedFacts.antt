@@ -1,16 +1,17 @@
 -- What holds of a submission that passed checks 1 to 7, of one that passed checks 1 to 10, and of its records as the code reads them.
 use mathlib.Core.Path.{_≡_}
-use mathlib.Core.Bool.{Bool, true, _&&_, cond}
+use mathlib.Core.Bool.{Bool, true, _&&_, not, cond}
 use mathlib.Core.List.{List}
 use Prim.Native.Nat.{ℕ, _<_}
 use Rattle.term.specs.Number.{hasOne}
 use Rattle.submission.specs.declared.Claim.{Claim}
-use Rattle.base.specs.Computed.{fails, failsIf}
+use Rattle.base.specs.Computed.{fails, failsIf, failsAt}
 use Rattle.submission.specs.Code.{Limited, IsClaim}
 use Rattle.submission.specs.Record.{terms, steps, verifying, wayAt, secondAt}
 use Rattle.submission.specs.Check.{wayOf}
 use Rattle.submission.specs.Computed.{checks1to5}
-use Rattle.base.proofs.AnswerLaws.{then-passes}
+use Rattle.base.proofs.AnswerLaws.{if-passes, then-passes}
+use Rattle.base.proofs.Says.{not-not-false}
 use Rattle.submission.proofs.PassedChecks.{limited, body-passes}
 use Rattle.submission.proofs.theory.ListedTerms.{Claimed, claimed}
 use Rattle.derivation.specs.declared.Step.{Step}
@@ -19,10 +20,9 @@ use Rattle.derivation.specs.Code.{IsStep}
 use Rattle.derivation.proofs.theory.StepMeaning.{second-listed, fits-iff, steps-pass}
 use Rattle.deduction.specs.Computed.{entryMarks, isDeducible}
 use Rattle.deduction.specs.Code.{TableRead}
-use Rattle.conditions.specs.Computed.{reachable, hasSecondWay, checks1to10}
+use Rattle.conditions.specs.Computed.{reachable, hasSecondWay, undone, checks1to10}
 use Rattle.derivation.specs.Computed.{checkSteps}
 use Rattle.conditions.specs.Code.{Founded, Acceptable}
-use Rattle.conditions.proofs.theory.Acceptance.{pass-8-to-10}
 use Rattle.base.specs.Words.{first}
 
 -- the second premise of step i, read off its record
@@ -82,4 +82,6 @@ module _ {s : List ℕ} (h : Acceptable s) where
   second-way =
       let (r, t) = then-passes (checks1to5 s) _ .0 (h .passed) in
       let (r, t) = then-passes (checkSteps s) _ .0 t in
-      pass-8-to-10 s .0 t .1
+      let (r, t) = then-passes (failsIf (reachable s) 8 (verifying s)) _ .0 t in
+      let (r, t) = then-passes (failsIf (not (hasSecondWay s (wayOf (wayAt s)))) 9 (verifying s)) (failsAt 10 (first (undone s) (steps s))) .0 t in
+      not-not-false _ .0 (if-passes _ 9 (verifying s) .0 r)

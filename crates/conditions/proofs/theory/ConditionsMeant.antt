@@ -143,6 +143,3 @@ module _ {s : List ℕ} (c : Claimed s) (sound : (i : ℕ) → i < steps s → S
         ⊎-elim (λ u. (verifying s, inl refl, u)) (λ (e, u). (companion s, inr (e, refl), u)),
         λ (j, b, u). ⊎-elim (λ e. inl (rw (← e) u)) (λ (f, e). inr (f, rw (← e) u)) b,
       )
-
-  pub undone-iff : ((i : ℕ) → i < steps s → undone s i ≡ false) ↔ ((i : ℕ) → i < steps s → Undone s i → ⊥)
-  undone-iff = (λ f i l. denies _ (says-undone i l) .0 (f i l), λ f i l. denies _ (says-undone i l) .1 (f i l))

@@ -23,6 +23,10 @@ use Rattle.conditions.specs.{Condition.SecondWay, Condition.Undone, Cond
 use Rattle.conditions.proofs.theory.ConditionsMeant.{says-reachable, second-way-iff, says-undone}
 
 -- ---- checking
+-- where neither row 6 nor row 7 holds, every step is right
+pub all-fit : (s : List ℕ) (c : Claimed s) → Clear (rows6and7 s ∷ []) → (i : ℕ) → i < steps s → StepFits s i
+all-fit s c k i l = fits-iff (c .read) i .0 (steps-pass s .0 (passes-iff (tells-6-and-7 c) .1 k) i l .0)
+
 module _ (s : List ℕ) (b : Bytes s) where
   -- checks 8 to 10, of a claim and of steps that are right
   tells-8-to-10 : (c : Claimed s) → ((i : ℕ) → i < steps s → StepFits s i) →
@@ -33,15 +37,12 @@ module _ (s : List ℕ) (b : Bytes s) where
       (tells-if (not (hasSecondWay s (wayOf (wayAt s)))) 9 (verifying s) (says-not _ (second-way-iff c sound))) (λ _.
       tells-at 10 (undone s) (steps s) (says-undone c sound)))
 
-  all-fit : (c : Claimed s) → Clear (rows6and7 s ∷ []) → (i : ℕ) → i < steps s → StepFits s i
-  all-fit c k i l = fits-iff (c .read) i .0 (steps-pass s .0 (passes-iff (tells-6-and-7 c) .1 k) i l .0)
-
   tells-check : (room : ℕ) → Tells (andThen (checks1to10 s) (failsIf (ltb room (programLength (steps s))) 11 (programLength (steps s)))) (checkRows s room)
   unfolding checks1to10
   tells-check room =
       tells-then (checks1to10 s) (failsIf (ltb room (programLength (steps s))) 11 (programLength (steps s)))
       (tells-then (checks1to5 s) (andThen (checkSteps s) (checks8to10 s)) (tells-1-to-5 s) (λ k. let c = claimed-clear s b k in
-      tells-then (checkSteps s) (checks8to10 s) (tells-6-and-7 c) (λ m. tells-8-to-10 c (all-fit c m))))
+      tells-then (checkSteps s) (checks8to10 s) (tells-6-and-7 c) (λ m. tells-8-to-10 c (all-fit s c m))))
       (λ _. tells-if (ltb room (programLength (steps s))) 11 (programLength (steps s)) (says-ltb room (programLength (steps s))))
 
 -- Checking refuses with n at p exactly when row n holds at p and no row holds that the order puts before it; else it is done with N.
