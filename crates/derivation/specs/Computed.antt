@@ -1,4 +1,4 @@
--- Checks 6 and 7 as tests of term numbers. What they say of terms is in `Step`, by the theorems `fits-iff` and `founded-terms`.
+-- Checks 6 and 7 as tests of term numbers. What they say of terms is in `Step`, by the theorems `fits-iff`, `says-unfounded` and `tells-6-and-7`.
 use Rattle.base.specs.{Words.Bool, Words.true, Words._&&_, Words._||_, Words.not, Words.cond, Words.List, Words.Option, Words.none, Words.some, Words.ℕ, Words.eqb, Words.ltb, Words.first, Computed.any, Computed.Check, Computed.passes, Computed.fails}
 use Rattle.term.specs.{Term.Cipher, Term.symmetric, Term.asymmetric, Term.Side, Term.left, Term.right, Term.pair, Term.encryption, Term.Head, Term.make, Term.part, Term.decrypt, Term.compound, Computed.kindOf, Computed.isRule, Number.headOf}
 use Rattle.submission.specs.{Record.terms, Record.steps, Record.kindAt, Record.xAt, Record.yAt, Record.ruleAt, Record.pAt, Record.qAt, Record.secondAt, Record.conclusionAt, Computed.areInverse}
