@@ -1,4 +1,5 @@
--- Checks 6 and 7: a step that passes check 6 is a Dolev-Yao step of terms, and what passing both says of all steps.
+-- Checks 6 and 7: a step that passes check 6 is a Dolev-Yao step of terms, what passing both says of all steps, and that they answer as rows 6 and 7
+-- say.
 use mathlib.Core.Path.{_≡_, refl, sym, ap, ap₂, _∙_, subst}
 use mathlib.Core.Logic.{_↔_, inl, inr, ⊎-elim, Iff·trans}
 use mathlib.Core.Bool.{Bool, true, false, _||_, cond, false≢true}
