@@ -40,7 +40,7 @@ pub record FiveConditions (s : List ℕ) : Type 0 where
   -- 5. "No step anywhere in the derivation is undone by the verifying step, nor in way a by the companion."
   pub kept : (i : ℕ) → i < steps s → Undone s i → ⊥
 
--- "Order: as numbered": 8 reachable, 9 no second way, 10 undone are conditions 3, 4, 5 broken; 11 page, "page under 3N+4 bytes", has room for its length
+-- "Order: as numbered": 8 reachable, 9 no second way, 10 undone are conditions 3, 4, 5 broken; 11 page, "page under 3N+4 bytes", is of a page of room bytes
 abbrev pub checkRows : List ℕ → ℕ → List (ℕ → ℕ → Type 0)
 checkRows s room =
     rows1to5 s
