@@ -8,7 +8,7 @@ unfoldable pub firstFrom : (ℕ → Bool) → ℕ → ℕ → Option ℕ
 firstFrom p i zero = none
 firstFrom p i (suc n) = elim (p i) [ true ↦ some i | false ↦ firstFrom p (suc i) n ]
 
--- the first number below n at which p holds: every refusal that names a place names the first one that fails
+-- the first number below n at which p holds
 unfoldable pub first : (ℕ → Bool) → ℕ → Option ℕ
 first p n = firstFrom p 0 n
 
