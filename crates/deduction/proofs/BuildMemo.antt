@@ -143,10 +143,10 @@ module _ {s known l₀ : List ℕ} {t i : ℕ} (w : TableRead s) (l : t < terms 
       first-at : getD l₁ j 0 ≡ code (built s (marksOf known) x)
       first-at = ap (λ k. getD l₁ k 0) h ∙ f .here
 
-      pub now-left : getD l₁ j 0 ≡ 2 → Decided s known t l₀ (set l₁ i 2)
+      pub now-left : getD l₁ j 0 ≡ 2 → Decided s known t l₀ (set l₁ i (getD l₁ j 0))
       now-left u =
           let b : built s (marksOf known) t ≡ false = halves ∙ rw (code-no (built s (marksOf known) x) (sym first-at ∙ u)) in
-          decided-now e (small w l) free (f .kept) (f .memo) (sym (ap code b))
+          decided-now e (small w l) free (f .kept) (f .memo) (u ∙ sym (ap code b))
 
       pub now-both : {l₂ : List ℕ} {k : ℕ} → (getD l₁ j 0 ≡ 2 → ⊥) → Decided s known y l₁ l₂ → k ≡ y → Decided s known t l₀ (set l₂ i (getD l₂ k 0))
       now-both {l₂} {k} u v q =

@@ -87,39 +87,36 @@ fn parts_of(s: &[u8], t: u8) -> Parts
     }
 }
 
-// The memo with term t decided: 1 can be built, 2 cannot. The parts of t are earlier records, so the number falls, and each term is
-// decided once.
-fn build(s: &[u8], known: &[u8; 256], memo: Marks, t: u8) -> Marks
+// Decides term t in the memo: 1 can be built, 2 cannot. The parts of t are earlier records, so the number falls, and each term is decided
+// once. The memo is lent, so that a call holds little: terms nest 250 deep.
+fn build(s: &[u8], known: &[u8; 256], memo: &mut [u8; 256], t: u8)
     requires { ⌜ TableRead (now s) ⌝ }
     requires { ⌜ t < terms (now s) ⌝ }
-    requires { ⌜ Memo (now s) (now known) (memo .state) ⌝ }
-    ensures { λ r. ⌜ Decided (now (s .entry)) (now (known .entry)) t (memo .state) (r .state) ⌝ }
+    requires { ⌜ Memo (now s) (now known) (now memo) ⌝ }
+    ensures { λ _. ⌜ Decided (now (s .entry)) (now (known .entry)) t (now (memo .entry)) (now (memo .exit)) ⌝ }
 {
-    let mut out = memo;
     let i = base::wide(t);
-    let mark = out.state[i];
-    if mark != 0 {
-        return out;
+    if memo[i] != 0 {
+        return;
     }
     if known[i] == 1 {
-        out.state[i] = 1;
-        return out;
+        memo[i] = 1;
+        return;
     }
     let parts = parts_of(s, t);
     let Parts::Both { x, y } = parts else {
-        out.state[i] = 2;
-        return out;
+        memo[i] = 2;
+        return;
     };
-    let mut left = build(s, known, out, x);
-    let first = left.state[base::wide(x)];
+    build(s, known, memo, x);
+    let first = memo[base::wide(x)];
     if first == 2 {
-        left.state[i] = 2;
-        return left;
+        memo[i] = first;
+        return;
     }
-    let mut both = build(s, known, left, y);
-    let second = both.state[base::wide(y)];
-    both.state[i] = second;
-    both
+    build(s, known, memo, y);
+    let second = memo[base::wide(y)];
+    memo[i] = second;
 }
 
 // Whether term k is an atom that is not known: that cannot be built.
@@ -209,9 +206,8 @@ fn opened(s: &[u8], known: &[u8; 256], r: Round, body: u8, key: u8) -> Round
 {
     let state = r.state;
     let changed = r.changed;
-    let before = r.memo;
-    let decided = build(s, known, Marks { state: before }, key);
-    let memo = decided.state;
+    let mut memo = r.memo;
+    build(s, known, &mut memo, key);
     let next = Round {
         state,
         memo,
@@ -321,13 +317,13 @@ fn are_built(s: &[u8], known: &[u8; 256], p: u8, q: u8) -> bool
     if is_missing(s, known, q) {
         return false;
     }
-    let first = build(s, known, Marks { state: [0u8; 256] }, p);
-    let answer = first.state[base::wide(p)];
-    if answer != 1 {
+    let mut memo = [0u8; 256];
+    build(s, known, &mut memo, p);
+    if memo[base::wide(p)] != 1 {
         return false;
     }
-    let both = build(s, known, first, q);
-    both.state[base::wide(q)] == 1
+    build(s, known, &mut memo, q);
+    memo[base::wide(q)] == 1
 }
 
 // Whether the terms p and q are both deducible from the terms that `start` marks. The terms are taken apart once.
@@ -348,8 +344,9 @@ fn is_deducible(s: &[u8], t: u8) -> bool
     ensures { λ r. ⌜ r ≡ isDeducible (now (s .entry)) (entryMarks (now (s .entry))) t ⌝ }
 {
     let known = saturated(s, knowledge_marks(s));
-    let decided = build(s, &known.state, Marks { state: [0u8; 256] }, t);
-    decided.state[base::wide(t)] == 1
+    let mut memo = [0u8; 256];
+    build(s, &known.state, &mut memo, t);
+    memo[base::wide(t)] == 1
 }
 
 // Whether term t is deducible from the knowledge of the submission: 1 for yes, 0 for no.

@@ -8,19 +8,19 @@ use borrow.Fn.PlainCycle.{Measures, is, falls, and}
 use Rattle.deduction.proofs.build.Reads as build
 use Rattle.deduction.proofs.build.Kinds as build-kinds
 use Rattle.deduction.proofs.+build.Lts-build as build-lts
-use Rattle.deduction.proofs.parts_of.Reads as parts-of-reads
 use Rattle.base.proofs.wide.Reads as wide-reads
+use Rattle.deduction.proofs.parts_of.Reads as parts-of-reads
 use Rattle.deduction.proofs.+build.{statement}
 use Rattle.deduction.proofs.+build.Tie.{close}
 
-abbrev μ-build : Measures 2 build-kinds.ps ℕ
+abbrev μ-build : Measures 3 build-kinds.ps ℕ
 μ-build κs a = a .1 .1 .1 .0
 
-abbrev build-at : ℕ → In 2 build-kinds.ps
-build-at t = and 2 build-kinds.ps (is 2 build-kinds.ps μ-build t) build.Pre
+abbrev build-at : ℕ → In 3 build-kinds.ps
+build-at t = and 3 build-kinds.ps (is 3 build-kinds.ps μ-build t) build.Pre
 
-abbrev build-below : ℕ → In 2 build-kinds.ps
-build-below t = and 2 build-kinds.ps (falls 2 build-kinds.ps _<_ μ-build t) build.Pre
+abbrev build-below : ℕ → In 3 build-kinds.ps
+build-below t = and 3 build-kinds.ps (falls 3 build-kinds.ps _<_ μ-build t) build.Pre
 
 build-wide-requires : (t : ℕ) → build-lts.Need-wide-requires (
   wide-reads.Asked,
@@ -32,7 +32,7 @@ build-wide-requires : (t : ℕ) → build-lts.Need-wide-requires (
 ) (build-at t) build.Post
 build-wide-requires t c κs = search needs
 
-build-element-copy-out-mark : (t : ℕ) → build-lts.Need-element-copy-out-mark (
+build-element-copy-out-if1 : (t : ℕ) → build-lts.Need-element-copy-out-if1 (
   wide-reads.Asked,
   wide-reads.Learnt,
   parts-of-reads.Asked,
@@ -40,7 +40,7 @@ build-element-copy-out-mark : (t : ℕ) → build-lts.Need-element-copy-out-mark
   build-below t,
   build.Post,
 ) (build-at t) build.Post
-build-element-copy-out-mark t c = search needs
+build-element-copy-out-if1 t c = search needs
 
 build-returns : (t : ℕ) → build-lts.Need-returns (
   wide-reads.Asked,
@@ -62,7 +62,7 @@ build-element-copy-out-if2 : (t : ℕ) → build-lts.Need-element-copy-out-if2 (
 ) (build-at t) build.Post
 build-element-copy-out-if2 t c = search needs
 
-build-element-write-out : (t : ℕ) → build-lts.Need-element-write-out (
+build-element-write-memo : (t : ℕ) → build-lts.Need-element-write-memo (
   wide-reads.Asked,
   wide-reads.Learnt,
   parts-of-reads.Asked,
@@ -70,7 +70,7 @@ build-element-write-out : (t : ℕ) → build-lts.Need-element-write-out (
   build-below t,
   build.Post,
 ) (build-at t) build.Post
-build-element-write-out t c = search needs
+build-element-write-memo t c = search needs
 
 build-returns-2 : (t : ℕ) → build-lts.Need-returns-2 (
   wide-reads.Asked,
@@ -112,7 +112,7 @@ build-enum-told : (t : ℕ) → build-lts.Need-enum-told (
 ) (build-at t) build.Post
 build-enum-told t c = search needs
 
-build-element-write-out-2 : (t : ℕ) → build-lts.Need-element-write-out-2 (
+build-element-write-memo-2 : (t : ℕ) → build-lts.Need-element-write-memo-2 (
   wide-reads.Asked,
   wide-reads.Learnt,
   parts-of-reads.Asked,
@@ -120,7 +120,7 @@ build-element-write-out-2 : (t : ℕ) → build-lts.Need-element-write-out-2 (
   build-below t,
   build.Post,
 ) (build-at t) build.Post
-build-element-write-out-2 t c = search needs
+build-element-write-memo-2 t c = search needs
 
 build-returns-3 : (t : ℕ) → build-lts.Need-returns-3 (
   wide-reads.Asked,
@@ -162,7 +162,7 @@ build-element-copy-out-first : (t : ℕ) → build-lts.Need-element-copy-out-fir
 ) (build-at t) build.Post
 build-element-copy-out-first t c = search needs
 
-build-element-write-left : (t : ℕ) → build-lts.Need-element-write-left (
+build-element-write-memo-3 : (t : ℕ) → build-lts.Need-element-write-memo-3 (
   wide-reads.Asked,
   wide-reads.Learnt,
   parts-of-reads.Asked,
@@ -170,7 +170,7 @@ build-element-write-left : (t : ℕ) → build-lts.Need-element-write-left (
   build-below t,
   build.Post,
 ) (build-at t) build.Post
-build-element-write-left t c = search needs
+build-element-write-memo-3 t c = search needs
 
 build-returns-4 : (t : ℕ) → build-lts.Need-returns-4 (
   wide-reads.Asked,
@@ -212,7 +212,7 @@ build-element-copy-out-second : (t : ℕ) → build-lts.Need-element-copy-out-se
 ) (build-at t) build.Post
 build-element-copy-out-second t c = search needs
 
-build-element-write-both : (t : ℕ) → build-lts.Need-element-write-both (
+build-element-write-memo-4 : (t : ℕ) → build-lts.Need-element-write-memo-4 (
   wide-reads.Asked,
   wide-reads.Learnt,
   parts-of-reads.Asked,
@@ -220,7 +220,7 @@ build-element-write-both : (t : ℕ) → build-lts.Need-element-write-both (
   build-below t,
   build.Post,
 ) (build-at t) build.Post
-build-element-write-both t c = search needs
+build-element-write-memo-4 t c = search needs
 
 build-returns-5 : (t : ℕ) → build-lts.Need-returns-5 (
   wide-reads.Asked,
@@ -244,23 +244,23 @@ pub +build-spec : {M : Type 1} → statement M
     (build-at t)
     build.Post
     (build-wide-requires t)
-    (build-element-copy-out-mark t)
+    (build-element-copy-out-if1 t)
     (build-returns t)
     (build-element-copy-out-if2 t)
-    (build-element-write-out t)
+    (build-element-write-memo t)
     (build-returns-2 t)
     (build-parts-of-requires t)
     (build-enum-known-parts t)
     (build-enum-told t)
-    (build-element-write-out-2 t)
+    (build-element-write-memo-2 t)
     (build-returns-3 t)
     (build-build-requires t)
     (build-wide-requires-2 t)
     (build-element-copy-out-first t)
-    (build-element-write-left t)
+    (build-element-write-memo-3 t)
     (build-returns-4 t)
     (build-build-requires-2 t)
     (build-wide-requires-3 t)
     (build-element-copy-out-second t)
-    (build-element-write-both t)
+    (build-element-write-memo-4 t)
     (build-returns-5 t)

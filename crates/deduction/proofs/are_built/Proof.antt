@@ -23,8 +23,8 @@ build-requires c κs = search (memo-none, needs)
 wide-requires : tie.Need-wide-requires
 wide-requires c κs = search needs
 
-element-copy-out-answer : tie.Need-element-copy-out-answer
-element-copy-out-answer c = search needs
+array-read-if3 : tie.Need-array-read-if3
+array-read-if3 c = search needs
 
 returns-3 : tie.Need-returns-3
 returns-3 c = search (first-not, needs)
@@ -35,8 +35,8 @@ build-requires-2 c κs = search needs
 wide-requires-2 : tie.Need-wide-requires-2
 wide-requires-2 c κs = search needs
 
-element-copy-out-result : tie.Need-element-copy-out-result
-element-copy-out-result c = search needs
+array-read-result : tie.Need-array-read-result
+array-read-result c = search needs
 
 returns-4 : tie.Need-returns-4
 returns-4 c = search (first-yes, needs)
@@ -51,9 +51,9 @@ are-built-spec =
     returns-2
     build-requires
     wide-requires
-    element-copy-out-answer
+    array-read-if3
     returns-3
     build-requires-2
     wide-requires-2
-    element-copy-out-result
+    array-read-result
     returns-4)

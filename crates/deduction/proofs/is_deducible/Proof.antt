@@ -17,8 +17,8 @@ build-requires c κs = search (memo-none, needs)
 wide-requires : tie.Need-wide-requires
 wide-requires c κs = search needs
 
-element-copy-out-result : tie.Need-element-copy-out-result
-element-copy-out-result c = search needs
+array-read-result : tie.Need-array-read-result
+array-read-result c = search needs
 
 returns : tie.Need-returns
 returns c = search (said-known, needs)
@@ -31,5 +31,5 @@ is-deducible-spec =
     saturated-requires
     build-requires
     wide-requires
-    element-copy-out-result
+    array-read-result
     returns)
