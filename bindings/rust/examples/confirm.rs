@@ -1,0 +1,102 @@
+//! `confirm FILE`: tries every call on the submission in a file. A line is a call, what it was
+//! asked, and its answer; a refusal is `refused`, its number and its place.
+//!
+//! A refused submission ends with 0: it is an answer. The status is 1 where the file is not read or
+//! the output not written.
+
+use std::env;
+use std::fs;
+use std::io::{self, Write};
+use std::process::ExitCode;
+
+use checker::{check, deducible, run, Refusal, LONGEST_PROGRAM};
+
+fn main() -> ExitCode {
+    match confirm() {
+        Ok(()) => ExitCode::SUCCESS,
+        Err(error) => {
+            eprintln!("confirm: {error}");
+            ExitCode::FAILURE
+        }
+    }
+}
+
+fn confirm() -> Result<(), String> {
+    let arguments: Vec<_> = env::args_os().skip(1).collect();
+    let [path] = &arguments[..] else {
+        return Err("usage: confirm FILE".to_string());
+    };
+    let submission = fs::read(path).map_err(|error| format!("{}: {error}", path.display()))?;
+    let mut out = io::stdout().lock();
+    show_calls(&submission, &mut out)
+        .and_then(|()| out.flush())
+        .map_err(|error| format!("output not written: {error}"))
+}
+
+fn show_calls(submission: &[u8], out: &mut impl Write) -> io::Result<()> {
+    let mut page = [0; LONGEST_PROGRAM];
+    match check(submission, &mut page) {
+        Ok(program) => {
+            writeln!(out, "check accepted {}", program[0])?;
+            show_deducible(submission, out)?;
+            show_signals(submission, program, out)
+        }
+        Err(refusal) => {
+            writeln!(out, "check {refusal}")?;
+            show_deducible(submission, out)
+        }
+    }
+}
+
+/// Asks for each term, up to the first number that is refused.
+fn show_deducible(submission: &[u8], out: &mut impl Write) -> io::Result<()> {
+    for term in 0..=u8::MAX {
+        let answer = deducible(submission, term);
+        writeln!(out, "deducible {term} {}", shown(answer))?;
+        if answer.is_err() {
+            break;
+        }
+    }
+    Ok(())
+}
+
+/// Runs the program of an accepted submission with its own guess, and with a wrong one.
+fn show_signals(submission: &[u8], program: &[u8], out: &mut impl Write) -> io::Result<()> {
+    let right = guess(submission);
+    for name in [right, wrong_guess(submission, right)] {
+        writeln!(out, "run {name} {}", shown(run(submission, name, program)))?;
+    }
+    Ok(())
+}
+
+fn shown(answer: Result<bool, Refusal>) -> String {
+    match answer {
+        Ok(yes) => u8::from(yes).to_string(),
+        Err(refusal) => refusal.to_string(),
+    }
+}
+
+/// Where the terms start in every submission.
+const TERMS: usize = 16;
+
+/// The name of an accepted submission's guess: the claim starts where the contents' last entry
+/// says, with the guess's term number.
+fn guess(submission: &[u8]) -> u16 {
+    let claim = usize::from(u16::from_be_bytes([submission[14], submission[15]]));
+    let record = TERMS + 3 * usize::from(submission[claim]);
+    u16::from_be_bytes([submission[record + 1], submission[record + 2]])
+}
+
+/// The first name after the right one that no listed atom has. Its atom and the inverse of it are
+/// then part of no message, so it is that of a wrong guess.
+fn wrong_guess(submission: &[u8], right: u16) -> u16 {
+    let terms = &submission[TERMS..TERMS + 3 * usize::from(submission[1])];
+    let is_listed = |name: u16| {
+        terms.chunks_exact(3).any(|term| term[0] <= 3 && term[1..] == name.to_be_bytes())
+    };
+    let mut name = right;
+    while is_listed(name) {
+        name = name.wrapping_add(1);
+    }
+    name
+}

@@ -1,0 +1,68 @@
+//! The checker's three calls, safe to call from Rust.
+//!
+//! Every call takes any bytes and ends. What an answer means is proved of the calls themselves; of
+//! this wrapper nothing is proved, and it only turns the one number that a call answers into a
+//! [`Result`]. Stack, threads and the platform are as `include/checker.h` says: a call needs at
+//! most 96 KB of stack, and any number of threads may call at once.
+
+pub mod raw;
+
+use std::error::Error;
+use std::fmt;
+
+/// A page of this length is never too short: 128 steps are the most.
+pub const LONGEST_PROGRAM: usize = program_length(128);
+
+/// A refusal, by a number and a place of `docs/VERDICTS.md`.
+#[derive(Clone, Copy, PartialEq, Eq, Debug)]
+pub struct Refusal {
+    pub number: u16,
+    pub place: u16,
+}
+
+impl fmt::Display for Refusal {
+    fn fmt(&self, f: &mut fmt::Formatter<'_>) -> fmt::Result {
+        write!(f, "refused {} {}", self.number, self.place)
+    }
+}
+
+impl Error for Refusal {}
+
+/// The length of the register program of a submission with this many steps: 3N+4.
+pub const fn program_length(steps: usize) -> usize {
+    3 * steps + 4
+}
+
+/// Checks a submission.
+///
+/// An acceptance gives the register program, for [`run`]: the first 3N+4 bytes of the page, of
+/// which the first is the count N of steps. The other bytes of the page are as before. A refusal,
+/// 1 to 11, leaves the whole page as it was. A page of [`LONGEST_PROGRAM`] bytes is never too
+/// short.
+pub fn check<'page>(submission: &[u8], page: &'page mut [u8]) -> Result<&'page [u8], Refusal> {
+    let steps = decoded(raw::check(submission, page))?;
+    Ok(&page[..program_length(usize::from(steps))])
+}
+
+/// Whether some finite list of Dolev-Yao steps reaches the term of this number from the
+/// submission's knowledge, without the guess. A refusal is 1 to 4 or 12.
+pub fn deducible(submission: &[u8], term: u8) -> Result<bool, Refusal> {
+    Ok(decoded(raw::deducible(submission, term))? == 1)
+}
+
+/// The signal of a register program over the submission's knowledge and a guess of this name.
+///
+/// The program that [`check`] gave signals true with the name of the submission's own guess, and
+/// false with that of every wrong guess; `include/checker.h` says which names these are. A refusal
+/// is 1 to 5 or 13.
+pub fn run(submission: &[u8], name: u16, program: &[u8]) -> Result<bool, Refusal> {
+    Ok(decoded(raw::run(submission, name, program))? == 1)
+}
+
+/// The value of an answer, or its refusal.
+fn decoded(answer: u32) -> Result<u16, Refusal> {
+    match ((answer / raw::REFUSAL) as u16, (answer % raw::REFUSAL) as u16) {
+        (0, value) => Ok(value),
+        (number, place) => Err(Refusal { number, place }),
+    }
+}

@@ -1,0 +1,39 @@
+//! The calls with their answer as one number: a refusal is its number times [`REFUSAL`] plus its
+//! place, and every other answer is below [`REFUSAL`].
+
+/// What the number of a refusal is multiplied with before its place is added.
+pub const REFUSAL: u32 = 65_536;
+
+// include/checker.h
+extern "C" {
+    fn checker_check(sub: *const u8, sub_len: usize, page: *mut u8, page_len: usize) -> u32;
+    fn checker_deducible(sub: *const u8, sub_len: usize, term: u8) -> u32;
+    fn checker_run(
+        sub: *const u8,
+        sub_len: usize,
+        name: u16,
+        program: *const u8,
+        program_len: usize,
+    ) -> u32;
+}
+
+/// Checks a submission: the count N of its steps, or a refusal, 1 to 11.
+pub fn check(submission: &[u8], page: &mut [u8]) -> u32 {
+    // SAFETY: each buffer is passed with its own length, and only the page, which nothing else
+    // refers to, is written.
+    unsafe { checker_check(submission.as_ptr(), submission.len(), page.as_mut_ptr(), page.len()) }
+}
+
+/// Whether the term of this number is deducible: 1 or 0, or a refusal, 1 to 4 or 12.
+pub fn deducible(submission: &[u8], term: u8) -> u32 {
+    // SAFETY: the submission is passed with its own length and only read.
+    unsafe { checker_deducible(submission.as_ptr(), submission.len(), term) }
+}
+
+/// The signal of a program with this name for the guess: 1 or 0, or a refusal, 1 to 5 or 13.
+pub fn run(submission: &[u8], name: u16, program: &[u8]) -> u32 {
+    // SAFETY: each buffer is passed with its own length and only read.
+    unsafe {
+        checker_run(submission.as_ptr(), submission.len(), name, program.as_ptr(), program.len())
+    }
+}
