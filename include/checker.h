@@ -1,11 +1,28 @@
-/* The checker's three calls, in libchecker.a (rt staticlib checker).
+/* The checker's three calls, in libchecker.a (rt staticlib checker). bindings/ has an example in C, and a safe wrapper for Rust.
 
-   Every call takes any bytes, in any number, and ends. A buffer is a pointer, never null, and a length. Only the page is written, and
-   no other buffer overlaps it.
+   Answers. Every call takes any bytes and ends. An answer is one number. A refusal is number * 65536 + place, with the numbers and
+   places of docs/VERDICTS.md; every other answer is below 65536. That each call answers what the definitions under crates/ give, and
+   leaves those bytes on the page, is proved: the contracts are in crates/checker/src/calls.rt. Stack, threads and null, below, are
+   properties of the compiled library: tried and measured, not proved.
 
-   An answer is one number. A refusal is number * 65536 + place, with the numbers and places of docs/VERDICTS.md; every other answer is
-   below 65536. That each call answers what the definitions under crates/ give, and leaves those bytes on the page, is proved: the
-   contracts are in crates/checker/src/calls.rt. */
+   Buffers. A buffer is a pointer to bytes and their number, with no demand on alignment. Only the page is written, and no other buffer
+   overlaps it. For an empty buffer pass any valid pointer and 0. Null with 0 is not promised by the language; in the library as it is
+   compiled it is harmless, since no call follows a pointer before it has looked at the length, and the tests try it.
+
+   Stack. A call needs at most 96 KB of stack, for every input.
+
+   Threads. The library has no variables, allocates nothing and makes no system call, so any number of threads may call at once. While a
+   call runs, nothing else writes its buffers, and nothing else reads its page.
+
+   Linking. cc program.c -Iinclude -Ltarget/staticlib -lchecker, with the library after what calls it. It needs memcpy, memmove and
+   memset of the C library and nothing else. It is for Linux on x86-64, with the System V calling convention, and position independent,
+   so it links into shared objects too.
+
+   Guesses. With the program of an accepted submission, run signals 1 for the name of the submission's own guess and 0 for the name of
+   every wrong guess. The atom meant by a name is the one of the guess's kind. A name is that of a wrong guess where it is not the
+   guess's own, and neither its atom nor, for a key, the atom's inverse is part of a message in the knowledge: the message itself or
+   anything that it is made from at any depth, keys included. So a name that no listed atom has is always that of a wrong guess. Of all
+   other names nothing is promised. */
 #ifndef CHECKER_H
 #define CHECKER_H
 
@@ -24,7 +41,8 @@ uint32_t checker_check(const uint8_t *sub, size_t sub_len, uint8_t *page, size_t
    A refusal is 1 to 4 or 12. */
 uint32_t checker_deducible(const uint8_t *sub, size_t sub_len, uint8_t term);
 
-/* The signal, 1 or 0, of a register program over the submission's knowledge and a guess of this name. A refusal is 1 to 5 or 13. */
+/* The signal, 1 or 0, of a register program over the submission's knowledge and a guess of this name. After an acceptance the program is
+   exactly the first 3N+4 bytes of the page: any other length is refused with 13. A refusal is 1 to 5 or 13. */
 uint32_t checker_run(const uint8_t *sub, size_t sub_len, uint16_t name, const uint8_t *program, size_t program_len);
 
 #ifdef __cplusplus
