@@ -1,11 +1,10 @@
 //! Tests of the checker from outside: an independent reference, a generator of submissions and
 //! programs, and a readable notation for submissions, all of them over the same tables.
 
+pub mod arguments;
 pub mod bodies;
 pub mod examples;
 pub mod generate;
-#[cfg(feature = "linked")]
-pub mod library;
 pub mod notation;
 pub mod reference;
 pub mod tables;

@@ -10,12 +10,13 @@ use std::hint::black_box;
 use std::process::{Command, Stdio};
 use std::time::{Duration, Instant};
 
+use checker::raw;
 use checker_tests::bodies::Bodies;
 use checker_tests::examples;
+use checker_tests::generate::repeated;
 use checker_tests::generate::shapes::{self, Order};
-use checker_tests::library;
 use checker_tests::reference::{self, code};
-use checker_tests::tables::{Body, Rule, Test, LONGEST_PROGRAM, MOST_INSTRUCTIONS};
+use checker_tests::tables::{Body, Rule, LONGEST_PROGRAM};
 
 /// The shortest time to measure, and how many measurements the fastest is taken of. Short ones end
 /// before another process gets the processor.
@@ -36,8 +37,9 @@ fn main() {
     measure_own_page("M1", &examples::submission("M1"));
     measure_own_page("typical", &examples::submission(TYPICAL));
     measure_own_page("largest accepted", &shapes::largest().submission());
-    let doubling = shapes::doubling_known(Body::Terms.most()).submission();
-    measure_run("128 times pair r r, 250 terms", &doubling, &doubling_program(&doubling));
+    let doubling = shapes::doubling_known(Body::Terms.most());
+    let pairs = repeated(Rule::Pair, doubling.knowledge.len() as u8, |register| register);
+    measure_run("128 times pair r r, 250 terms", &doubling.submission(), &pairs);
     for name in ["M1", TYPICAL] {
         measure_program(name, &verdict);
     }
@@ -68,7 +70,7 @@ fn submissions() -> Vec<(String, Vec<u8>)> {
 
 fn measure_check(title: &str, submission: &[u8]) {
     let mut page = [0; LONGEST_PROGRAM];
-    let checker = nanoseconds(|| library::check(black_box(submission), &mut page));
+    let checker = nanoseconds(|| raw::check(black_box(submission), &mut page));
     let reference = nanoseconds(|| code(reference::check(black_box(submission), &mut page)));
     print_row("check", title, submission.len(), checker, reference);
 }
@@ -76,7 +78,7 @@ fn measure_check(title: &str, submission: &[u8]) {
 /// Asks for the last term.
 fn measure_deducible(title: &str, submission: &[u8]) {
     let last = (bodies(submission).terms.len() - 1) as u8;
-    let checker = nanoseconds(|| library::deducible(black_box(submission), last));
+    let checker = nanoseconds(|| raw::deducible(black_box(submission), last));
     let reference = nanoseconds(|| code(reference::deducible(black_box(submission), last)));
     print_row("deducible", title, submission.len(), checker, reference);
 }
@@ -84,7 +86,7 @@ fn measure_deducible(title: &str, submission: &[u8]) {
 /// Runs the program with the right guess.
 fn measure_run(title: &str, submission: &[u8], program: &[u8]) {
     let (_, name) = reference::guess(submission).expect("a submission that can be run");
-    let checker = nanoseconds(|| library::run(black_box(submission), name, program));
+    let checker = nanoseconds(|| raw::run(black_box(submission), name, program));
     let reference = nanoseconds(|| code(reference::run(black_box(submission), name, program)));
     print_row("run", title, submission.len() + program.len(), checker, reference);
 }
@@ -108,17 +110,6 @@ fn started(program: &OsStr, name: &str) {
     let input = File::open(examples::path(name, "sub")).expect("an example");
     let status = Command::new(program).stdin(input).stdout(Stdio::null()).status();
     assert!(status.expect("the program starts").success());
-}
-
-/// A program that pairs the last register with itself, as often as a program may.
-fn doubling_program(submission: &[u8]) -> Vec<u8> {
-    let guess = bodies(submission).knowledge.len();
-    let last = (guess + MOST_INSTRUCTIONS) as u8;
-    let instructions: Vec<u8> = (guess as u8..last)
-        .flat_map(|register| [Rule::Pair.number(), register, register])
-        .collect();
-    let test = [Test::Equal.letter(), last, last - 1];
-    [&[MOST_INSTRUCTIONS as u8], &instructions[..], &test].concat()
 }
 
 fn bodies(submission: &[u8]) -> Bodies {

@@ -2,6 +2,7 @@
 //! one sequence of inputs.
 
 mod damage;
+mod deepest;
 mod limits;
 mod program;
 mod protocol;
@@ -18,7 +19,9 @@ use protocol::{protocol, Size};
 use random::Random;
 use shapes::Order;
 
+pub use deepest::deepest;
 pub use limits::padded;
+pub use program::repeated;
 
 /// What one round of the comparison uses.
 pub struct Input {
@@ -29,6 +32,8 @@ pub struct Input {
     pub asked: Vec<u8>,
     /// Names and programs to run.
     pub runs: Vec<(u16, Vec<u8>)>,
+    /// The name of the submission's own guess, 0 where it has none.
+    pub right: u16,
     /// Names that may be those of wrong guesses.
     pub names: Vec<u16>,
 }
@@ -56,10 +61,12 @@ impl Source {
     /// What to try with this submission.
     pub fn input(&mut self, submission: Vec<u8>) -> Input {
         let page = self.page(&submission);
+        let right = right_name(&submission);
         Input {
             asked: (0..4).map(|_| self.asked(&submission)).collect(),
-            runs: self.runs(&submission),
-            names: (0..4).map(|_| self.name(&submission)).collect(),
+            runs: self.runs(&submission, right),
+            names: (0..4).map(|_| self.name(right)).collect(),
+            right,
             submission,
             page,
         }
@@ -157,7 +164,7 @@ impl Source {
     }
 
     /// Runs with the submission's own program, changed ones, and others.
-    fn runs(&mut self, submission: &[u8]) -> Vec<(u16, Vec<u8>)> {
+    fn runs(&mut self, submission: &[u8], right: u16) -> Vec<(u16, Vec<u8>)> {
         let bodies = Bodies::read(submission).unwrap_or_default();
         let valid = program::valid(&mut self.random, &Registers::of(&bodies));
         let mut programs = vec![program::damaged(&mut self.random, &valid), valid];
@@ -165,19 +172,22 @@ impl Source {
             programs.push(program::damaged(&mut self.random, &own));
             programs.push(own);
         }
-        programs.into_iter().map(|program| (self.name(submission), program)).collect()
+        programs.into_iter().map(|program| (self.name(right), program)).collect()
     }
 
     /// The guess's own name, that of a listed atom, or any.
-    fn name(&mut self, submission: &[u8]) -> u16 {
-        let own = reference::guess(submission).map_or(0, |(_, name)| name);
+    fn name(&mut self, right: u16) -> u16 {
         match self.random.weighted(&[30, 40, 10, 20]) {
-            0 => own,
-            1 => own.wrapping_add(self.random.below(8) as u16),
+            0 => right,
+            1 => right.wrapping_add(self.random.below(8) as u16),
             2 => self.random.pick(&[0, 1, u16::MAX]),
             _ => self.random.number() as u16,
         }
     }
+}
+
+fn right_name(submission: &[u8]) -> u16 {
+    reference::guess(submission).map_or(0, |(_, name)| name)
 }
 
 /// A new protocol of some size, small ones more often.

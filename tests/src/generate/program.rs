@@ -43,6 +43,22 @@ pub fn valid(random: &mut Random, registers: &Registers) -> Vec<u8> {
     [&[count as u8], writer.instructions.as_flattened(), &test].concat()
 }
 
+/// The longest program, in which a rule goes over its own last result, from the guess's register on.
+/// `second` gives the second operand, where the rule has one, by the first. The test compares the
+/// last two results.
+pub fn repeated(rule: Rule, guess: u8, second: impl Fn(u8) -> u8) -> Vec<u8> {
+    let last = guess + MOST_INSTRUCTIONS as u8;
+    let instructions: Vec<[u8; INSTRUCTION_SIZE]> = (guess..last)
+        .map(|register| {
+            let operands = [register, second(register)];
+            let [first, second] = padded(&operands[..rule.operands()]);
+            [rule.number(), first, second]
+        })
+        .collect();
+    let test = [Test::Equal.letter(), last, last - 1];
+    [&[MOST_INSTRUCTIONS as u8], instructions.as_flattened(), &test].concat()
+}
+
 /// A program with something changed, or plain bytes.
 pub fn damaged(random: &mut Random, program: &[u8]) -> Vec<u8> {
     let mut changed = program.to_vec();

@@ -1,7 +1,8 @@
-//! Submissions of regular shape that make much work. All of them pass checks 1 to 7, and the search
-//! for what is deducible goes on until nothing more opens.
+//! Submissions of regular shape that make much work. All of them but the tower pass checks 1 to 7,
+//! and the search for what is deducible goes on until nothing more opens.
 
-use super::steps::step;
+use super::limits::padded;
+use super::steps::{around, step};
 use super::table::Table;
 use crate::bodies::Bodies;
 use crate::tables::{Body, Kind, Rule, Way};
@@ -76,6 +77,110 @@ pub fn largest() -> Bodies {
             .chain(taking)
             .collect(),
         claim: [guess, levels as u8, Way::KnownBefore.letter(), 0],
+    }
+}
+
+/// Accepted, with all counts at their limits: steps that encrypt the guess again and again under a
+/// public key whose inverse is not listed, up to an encryption that is known.
+pub fn largest_built() -> Bodies {
+    let mut table = Table::default();
+    let guess = table.atom(Kind::Plain, 0);
+    let key = table.atom(Kind::Public, 0);
+    let steps = Body::Derivation.most();
+    let mut nested = vec![guess];
+    for level in 0..steps {
+        nested.push(table.compound(Kind::Enca, &[nested[level], key]));
+    }
+    let building = nested.windows(2).map(|terms| step(Rule::Enca, &[terms[0], key], terms[1]));
+    let bodies = Bodies {
+        terms: table.records,
+        knowledge: vec![nested[steps], key],
+        derivation: building.collect(),
+        claim: [guess, (steps - 1) as u8, Way::KnownBefore.letter(), 0],
+    };
+    padded(&bodies, Body::Terms.most(), Body::Knowledge.most(), steps)
+}
+
+/// How a term is nested: what is built of the former term and an atom beside it.
+#[derive(Clone, Copy)]
+pub enum Nesting {
+    LeftPairs,
+    RightPairs,
+    AlternatingPairs,
+    DoublingPairs,
+    Enc,
+    Enca,
+}
+
+impl Nesting {
+    pub const ALL: [(&'static str, Nesting); 6] = [
+        ("pairs nested on the left", Nesting::LeftPairs),
+        ("pairs nested on the right", Nesting::RightPairs),
+        ("pairs nested on either side", Nesting::AlternatingPairs),
+        ("pairs nested on both sides", Nesting::DoublingPairs),
+        ("nested enc", Nesting::Enc),
+        ("nested enca", Nesting::Enca),
+    ];
+
+    /// The kind of the atom beside each term, which is the key of an encryption.
+    fn beside(self) -> Kind {
+        match self {
+            Nesting::Enca => Kind::Public,
+            _ => Kind::Plain,
+        }
+    }
+
+    /// The kind of the compound at this level, and its operands.
+    fn compound(self, level: usize, former: u8, beside: u8) -> (Kind, [u8; 2]) {
+        match self {
+            Nesting::LeftPairs => (Kind::Pair, [former, beside]),
+            Nesting::RightPairs => (Kind::Pair, [beside, former]),
+            Nesting::AlternatingPairs => {
+                let side = if level % 2 == 1 { Nesting::LeftPairs } else { Nesting::RightPairs };
+                side.compound(level, former, beside)
+            }
+            Nesting::DoublingPairs => (Kind::Pair, [former, former]),
+            Nesting::Enc => (Kind::Enc, [former, beside]),
+            Nesting::Enca => (Kind::Enca, [former, beside]),
+        }
+    }
+
+    /// Nests the innermost term until the table has this many terms. Answers the last.
+    fn nest(self, table: &mut Table, innermost: u8, beside: u8, terms: usize) -> u8 {
+        let mut top = innermost;
+        for level in table.records.len()..terms {
+            let (kind, operands) = self.compound(level, top, beside);
+            top = table.compound(kind, &operands);
+        }
+        top
+    }
+}
+
+/// The deepest term that can be listed, all of one known atom. No step, so check 5 refuses it.
+pub fn tower(nesting: Nesting) -> Bodies {
+    let mut table = Table::default();
+    let atom = table.atom(nesting.beside(), 0);
+    nesting.nest(&mut table, atom, atom, Body::Terms.most());
+    Bodies { terms: table.records, knowledge: vec![atom], ..Bodies::default() }
+}
+
+/// A deep term that is hidden under the guess; the last of two steps takes it apart. It can be built
+/// without the guess where its innermost atom is known.
+pub fn nested(nesting: Nesting, known: bool) -> Bodies {
+    let mut table = Table::default();
+    let guess = table.atom(Kind::Plain, 0);
+    let innermost = table.atom(Kind::Plain, 1);
+    let beside = table.atom(nesting.beside(), 2);
+    let inverse = nesting.beside().inverse().map(|kind| table.atom(kind, 2));
+    let top = nesting.nest(&mut table, innermost, beside, Body::Terms.most() - 1);
+    let message = table.compound(Kind::Enc, &[top, guess]);
+    let taking = around(&table, top).pop().expect("a step that takes the compound apart");
+    let atoms = [Some(beside), inverse, known.then_some(innermost)];
+    Bodies {
+        terms: table.records,
+        knowledge: [message].into_iter().chain(atoms.into_iter().flatten()).collect(),
+        derivation: vec![step(Rule::Dec, &[message, guess], top), taking],
+        claim: [guess, 1, Way::KnownBefore.letter(), 0],
     }
 }
 

@@ -1,25 +1,31 @@
-//! Compares the checker with the reference on the published examples and on many random inputs, and
-//! stops at the first difference.
+//! Compares the checker with the reference on the deepest inputs, on the published examples and on
+//! many random inputs, and stops at the first difference. The checker is called on a thread with a
+//! small stack.
 //!
 //! `compare [--seed SEED] [--count COUNT]`
 
+mod answers;
 mod tally;
 
 use std::process::ExitCode;
 use std::time::Instant;
 
+use answers::{answers, Answers, STACK};
+use checker_tests::arguments::seed_and_count;
 use checker_tests::examples;
-use checker_tests::generate::{Input, Source};
-use checker_tests::library;
+use checker_tests::generate::{deepest, Input, Source};
 use checker_tests::reference::{self, code, REFUSAL};
-use checker_tests::tables::program_length;
 use tally::{Call, Tally};
 
-const DEFAULT_SEED: u64 = 1;
 const DEFAULT_COUNT: u64 = 200_000;
 
+/// How many random inputs one thread calls the checker on.
+const BATCH: u64 = 500;
+
 fn main() -> ExitCode {
-    let result = arguments().and_then(|(seed, count)| compare(seed, count));
+    let result = seed_and_count("compare", DEFAULT_COUNT).and_then(|(seed, count)| {
+        compare(seed, count).map_err(|message| format!("seed {seed}, {message}"))
+    });
     match result {
         Ok(()) => ExitCode::SUCCESS,
         Err(message) => {
@@ -29,54 +35,58 @@ fn main() -> ExitCode {
     }
 }
 
-fn arguments() -> Result<(u64, u64), String> {
-    let (mut seed, mut count) = (DEFAULT_SEED, DEFAULT_COUNT);
-    let mut words = std::env::args().skip(1);
-    while let Some(word) = words.next() {
-        let value = words.next().and_then(|value| value.parse().ok());
-        match (word.as_str(), value) {
-            ("--seed", Some(value)) => seed = value,
-            ("--count", Some(value)) => count = value,
-            _ => return Err("usage: compare [--seed SEED] [--count COUNT]".to_string()),
-        }
-    }
-    Ok((seed, count))
-}
-
 fn compare(seed: u64, count: u64) -> Result<(), String> {
     let start = Instant::now();
-    let mut source = Source::new(seed);
     let mut tally = Tally::default();
-    for name in examples::names() {
-        let input = source.input(examples::submission(&name));
-        compare_input(&input, &mut tally)
-            .map_err(|difference| format!("seed {seed}, example {name}: {difference}"))?;
+    eprintln!("deepest inputs on a stack of {} KB", STACK / 1024);
+    for titled in deepest() {
+        let thread_name = titled.0.clone();
+        compare_inputs(&thread_name, &[titled], &mut tally)?;
     }
-    for number in 0..count {
-        let input = source.next_input();
-        compare_input(&input, &mut tally)
-            .map_err(|difference| format!("seed {seed}, input {number}: {difference}"))?;
+    let mut source = Source::new(seed);
+    let examples: Vec<_> = examples::names()
+        .into_iter()
+        .map(|name| (format!("example {name}"), source.input(examples::submission(&name))))
+        .collect();
+    compare_inputs("examples", &examples, &mut tally)?;
+    for first in (0..count).step_by(BATCH as usize) {
+        let numbers = first..count.min(first + BATCH);
+        let thread_name = format!("inputs {} to {}", numbers.start, numbers.end - 1);
+        let inputs: Vec<_> =
+            numbers.map(|number| (format!("input {number}"), source.next_input())).collect();
+        compare_inputs(&thread_name, &inputs, &mut tally)?;
     }
     tally.print();
     println!(
-        "examples and {count} inputs from seed {seed} alike in {:.1} s",
+        "deepest inputs, examples and {count} inputs from seed {seed} alike in {:.1} s",
         start.elapsed().as_secs_f64()
     );
     tally.complete()
 }
 
-/// Every call on the input, on both sides.
-fn compare_input(input: &Input, tally: &mut Tally) -> Result<(), String> {
-    compare_check(input, tally)?;
-    for &term in &input.asked {
+/// Every call on every input, each of which has a title, on both sides.
+fn compare_inputs(
+    thread_name: &str,
+    inputs: &[(String, Input)],
+    tally: &mut Tally,
+) -> Result<(), String> {
+    let found = answers(thread_name, inputs.iter().map(|(_, input)| input));
+    for ((title, input), found) in inputs.iter().zip(&found) {
+        compare_input(input, found, tally)
+            .map_err(|difference| format!("{title}: {difference}"))?;
+    }
+    Ok(())
+}
+
+fn compare_input(input: &Input, found: &Answers, tally: &mut Tally) -> Result<(), String> {
+    compare_check(input, found, tally)?;
+    for (&term, &found) in input.asked.iter().zip(&found.deducible) {
         let expected = reference::deducible(&input.submission, term);
-        let found = library::deducible(&input.submission, term);
         same(input, &format!("deducible {term}"), code(expected), found)?;
         tally.count(Call::Deducible, expected);
     }
-    for (name, program) in &input.runs {
+    for ((name, program), &found) in input.runs.iter().zip(&found.runs) {
         let expected = reference::run(&input.submission, *name, program);
-        let found = library::run(&input.submission, *name, program);
         same(input, &format!("run {name} {}", hex(program)), code(expected), found)?;
         tally.count(Call::Run, expected);
     }
@@ -84,37 +94,32 @@ fn compare_input(input: &Input, tally: &mut Tally) -> Result<(), String> {
 }
 
 /// The verdict and the whole page; and where the submission is accepted, the signals of the page.
-fn compare_check(input: &Input, tally: &mut Tally) -> Result<(), String> {
+fn compare_check(input: &Input, found: &Answers, tally: &mut Tally) -> Result<(), String> {
     let mut expected_page = input.page.clone();
-    let mut found_page = input.page.clone();
     let expected = reference::check(&input.submission, &mut expected_page);
-    let found = library::check(&input.submission, &mut found_page);
     let call = format!("check with a page of {} bytes", input.page.len());
-    same(input, &call, code(expected), found)?;
-    if expected_page != found_page {
-        let pages = format!("{} and {}", hex(&expected_page), hex(&found_page));
+    same(input, &call, code(expected), found.check)?;
+    if expected_page != found.page {
+        let pages = format!("{} and {}", hex(&expected_page), hex(&found.page));
         return Err(difference(input, &call, &format!("pages {pages}")));
     }
     tally.count(Call::Check, expected.map(|_| true));
     match expected {
-        Ok(steps) => {
-            let program = &found_page[..program_length(usize::from(steps))];
-            compare_signals(input, program, tally)
-        }
+        Ok(_) => compare_signals(input, &found.signals, tally),
         Err(_) => Ok(()),
     }
 }
 
 /// The right guess signals 1 and each wrong one 0.
-fn compare_signals(input: &Input, program: &[u8], tally: &mut Tally) -> Result<(), String> {
+fn compare_signals(input: &Input, signals: &[u32], tally: &mut Tally) -> Result<(), String> {
     let submission = &input.submission;
-    let (kind, own) = reference::guess(submission).expect("the submission is accepted");
+    let (kind, _) = reference::guess(submission).expect("the submission is accepted");
     tally.count_accepted(submission, kind);
-    same(input, "run with the right guess", 1, library::run(submission, own, program))?;
-    for &name in &input.names {
+    let (&right, others) = signals.split_first().expect("a signal for each name");
+    same(input, "run with the right guess", 1, right)?;
+    for (&name, &signal) in input.names.iter().zip(others) {
         if reference::is_wrong_guess(submission, name) == Ok(true) {
-            let call = format!("run with the wrong guess {name}");
-            same(input, &call, 0, library::run(submission, name, program))?;
+            same(input, &format!("run with the wrong guess {name}"), 0, signal)?;
             tally.wrong_guesses += 1;
         }
     }

@@ -1,0 +1,70 @@
+//! The checker's answers to inputs, all asked on a thread with a small stack.
+
+use std::thread;
+
+use checker::raw::{self, REFUSAL};
+use checker_tests::generate::Input;
+use checker_tests::tables::program_length;
+
+/// The stack of the thread that calls the checker, in bytes: what a call needs at most, as
+/// include/checker.h says.
+pub const STACK: usize = 96 * 1024;
+
+/// What the checker answers to an input.
+pub struct Answers {
+    pub check: u32,
+    /// The page after the check.
+    pub page: Vec<u8>,
+    pub deducible: Vec<u32>,
+    pub runs: Vec<u32>,
+    /// The signals of the program on the page, where the submission is accepted: with the right
+    /// guess, then with each of the input's other names.
+    pub signals: Vec<u32>,
+}
+
+/// The answers to these inputs. A call that needs more stack ends the process, with the thread's
+/// name in the message.
+pub fn answers<'a>(
+    thread_name: &str,
+    inputs: impl Iterator<Item = &'a Input> + Send,
+) -> Vec<Answers> {
+    thread::scope(|scope| {
+        thread::Builder::new()
+            .name(thread_name.to_string())
+            .stack_size(STACK)
+            .spawn_scoped(scope, || inputs.map(Answers::to).collect())
+            .expect("a thread starts")
+            .join()
+            .expect("the calls end")
+    })
+}
+
+impl Answers {
+    fn to(input: &Input) -> Answers {
+        let submission = &input.submission;
+        let mut page = input.page.clone();
+        let check = raw::check(submission, &mut page);
+        Answers {
+            signals: signals(input, check, &page),
+            check,
+            page,
+            deducible: input.asked.iter().map(|&term| raw::deducible(submission, term)).collect(),
+            runs: input
+                .runs
+                .iter()
+                .map(|(name, program)| raw::run(submission, *name, program))
+                .collect(),
+        }
+    }
+}
+
+fn signals(input: &Input, check: u32, page: &[u8]) -> Vec<u32> {
+    if check >= REFUSAL {
+        return vec![];
+    }
+    let Some(program) = page.get(..program_length(check as usize)) else {
+        return vec![];
+    };
+    let names = [input.right].into_iter().chain(input.names.iter().copied());
+    names.map(|name| raw::run(&input.submission, name, program)).collect()
+}

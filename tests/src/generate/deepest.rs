@@ -1,0 +1,49 @@
+//! The inputs on which the calls may need the most stack: terms nested as deep as the limit on terms
+//! allows, the longest derivations, and the longest programs.
+
+use super::program::repeated;
+use super::shapes::{self, Nesting};
+use super::{right_name, Input};
+use crate::bodies::Bodies;
+use crate::tables::{Body, Rule, LONGEST_PROGRAM};
+
+/// The inputs, each with a title.
+pub fn deepest() -> Vec<(String, Input)> {
+    let mut titled: Vec<(String, Bodies)> = Vec::new();
+    for (title, nesting) in Nesting::ALL {
+        titled.push((format!("{title} up to the limit"), shapes::tower(nesting)));
+        titled.push((format!("{title} over a known atom"), shapes::nested(nesting, true)));
+        titled.push((format!("{title} over a hidden atom"), shapes::nested(nesting, false)));
+    }
+    titled.extend([
+        ("the most steps, taking apart".to_string(), shapes::largest()),
+        ("the most steps, building".to_string(), shapes::largest_built()),
+        ("doubling pairs known".to_string(), shapes::doubling_known(Body::Terms.most())),
+    ]);
+    titled.into_iter().map(|(title, bodies)| (title, input(&bodies))).collect()
+}
+
+/// Asks for the last two terms, of which one is the deepest, for the first and for one too many.
+fn input(bodies: &Bodies) -> Input {
+    let submission = bodies.submission();
+    let right = right_name(&submission);
+    let terms = bodies.terms.len() as u8;
+    Input {
+        page: vec![0xA5; LONGEST_PROGRAM],
+        asked: vec![terms - 2, terms - 1, 0, terms],
+        runs: programs(bodies).into_iter().map(|program| (right, program)).collect(),
+        right,
+        names: vec![u16::MAX],
+        submission,
+    }
+}
+
+/// Each rule over its own last result: with that result as its second operand too, and with the
+/// guess.
+fn programs(bodies: &Bodies) -> Vec<Vec<u8>> {
+    let guess = bodies.knowledge.len() as u8;
+    Rule::ALL
+        .into_iter()
+        .flat_map(|rule| [repeated(rule, guess, |last| last), repeated(rule, guess, |_| guess)])
+        .collect()
+}
