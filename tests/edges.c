@@ -1,0 +1,56 @@
+/* The calls at the edges of what C can pass: null with length 0, and buffers at odd addresses. Compiled as C and as C++. */
+#include <checker.h>
+
+#include <stdio.h>
+#include <string.h>
+
+#define REFUSED(number, place) ((uint32_t)(number) * 65536 + (place))
+
+static const uint8_t M1[] = {
+    0x54, 0x03, 0x00, 0x10, 0x4B, 0x02, 0x00, 0x19, 0x44, 0x01, 0x00, 0x1B, 0x56, 0x01, 0x00, 0x1F, 0x01, 0x00,
+    0x01, 0x01, 0x00, 0x02, 0x05, 0x00, 0x01, 0x00, 0x02, 0x04, 0x02, 0x01, 0x00, 0x01, 0x00, 0x62, 0x00,
+};
+static const uint8_t M1_PAGE[] = {0x01, 0x04, 0x01, 0x02, 0x3D, 0x03, 0x00};
+
+static int failures;
+
+static void expect(const char *call, uint32_t expected, uint32_t found)
+{
+    if (expected == found)
+        return;
+    printf("%s: 0x%lX and not 0x%lX\n", call, (unsigned long)found, (unsigned long)expected);
+    failures++;
+}
+
+static void try_null(void)
+{
+    uint8_t page[sizeof M1_PAGE];
+    expect("check, no submission", REFUSED(1, 0), checker_check(NULL, 0, page, sizeof page));
+    expect("check, nothing", REFUSED(1, 0), checker_check(NULL, 0, NULL, 0));
+    expect("check, no page", REFUSED(11, 7), checker_check(M1, sizeof M1, NULL, 0));
+    expect("deducible, no submission", REFUSED(1, 0), checker_deducible(NULL, 0, 0));
+    expect("run, no submission", REFUSED(1, 0), checker_run(NULL, 0, 2, M1_PAGE, sizeof M1_PAGE));
+    expect("run, nothing", REFUSED(1, 0), checker_run(NULL, 0, 2, NULL, 0));
+    expect("run, no program", REFUSED(13, 0), checker_run(M1, sizeof M1, 2, NULL, 0));
+}
+
+/* The submission, and the page and then the program, each this many bytes into a buffer. */
+static void try_offset(size_t offset)
+{
+    uint8_t sub[sizeof M1 + 8], page[sizeof M1_PAGE + 8];
+    memcpy(sub + offset, M1, sizeof M1);
+    expect("check", 1, checker_check(sub + offset, sizeof M1, page + offset, sizeof M1_PAGE));
+    expect("the page", 0, memcmp(page + offset, M1_PAGE, sizeof M1_PAGE) != 0);
+    expect("deducible", 0, checker_deducible(sub + offset, sizeof M1, 1));
+    expect("run, right", 1, checker_run(sub + offset, sizeof M1, 2, page + offset, sizeof M1_PAGE));
+    expect("run, wrong", 0, checker_run(sub + offset, sizeof M1, 3, page + offset, sizeof M1_PAGE));
+    expect("run, a byte short", REFUSED(13, 0), checker_run(sub + offset, sizeof M1, 2, page + offset, sizeof M1_PAGE - 1));
+}
+
+int main(void)
+{
+    try_null();
+    for (size_t offset = 0; offset < 8; offset++)
+        try_offset(offset);
+    return failures != 0;
+}
