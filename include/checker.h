@@ -9,13 +9,13 @@
    overlaps it. For an empty buffer pass any valid pointer and 0. Null with 0 is not promised by the language; in the library as it is
    compiled it is harmless, since no call follows a pointer before it has looked at the length, and the tests try it.
 
-   Stack. A call needs at most 96 KB of stack, for every input.
+   Stack. A call needs at most 96 KB of stack, for every input. The most that was measured is 22 KB.
 
    Threads. The library has no variables, allocates nothing and makes no system call, so any number of threads may call at once. While a
    call runs, nothing else writes its buffers, and nothing else reads its page.
 
-   Linking. cc program.c -Iinclude -Ltarget/staticlib -lchecker, with the library after what calls it. It needs memcpy, memmove and
-   memset of the C library and nothing else. It is for Linux on x86-64, with the System V calling convention, and position independent,
+   Linking. cc program.c -Iinclude -Ltarget/staticlib -lchecker, with the library after what calls it. It needs nothing but
+   memcpy, memmove and memset of the C library. It is for Linux on x86-64, with the System V calling convention, and position independent,
    so it links into shared objects too.
 
    Guesses. With the program of an accepted submission, run signals 1 for the name of the submission's own guess and 0 for the name of
