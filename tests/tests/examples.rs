@@ -1,5 +1,6 @@
 //! The published examples: text, bytes and verdict belong together.
 
+use checker_tests::bodies::Bodies;
 use checker_tests::examples::{file, names, submission};
 use checker_tests::notation::{assemble, show};
 use checker_tests::reference::verdict;
@@ -48,6 +49,70 @@ fn each_is_in_the_documentation_with_its_verdict() {
     for name in names() {
         let first_line = text(&name, "out").lines().next().map(String::from);
         assert_eq!(documented(table, &name), first_line, "{name}");
+    }
+}
+
+/// The public constants of documents 000 to 003, as the texts write them.
+const PUBLIC: [&str; 14] = [
+    "a",
+    "b",
+    "c",
+    "s",
+    "a0",
+    "b0",
+    "plain 1",
+    "plain 2",
+    "plain 3",
+    "plain 4",
+    "req",
+    "rep",
+    "m1",
+    "public ka",
+];
+
+/// The names of the examples from documents 000 to 003: there the knowledge goes by the rule of
+/// docs/EXAMPLES.md.
+fn by_rule() -> impl Iterator<Item = String> {
+    names().into_iter().filter(|name| ("000".."004").contains(&name.as_str()))
+}
+
+/// The lines under a title of a text in the notation.
+fn section(text: &str, title: &str) -> Vec<String> {
+    let lines = text.lines().skip_while(|line| *line != title).skip(1);
+    lines.map_while(|line| line.strip_prefix("  ")).map(String::from).collect()
+}
+
+#[test]
+fn public_constants_are_known_and_come_first() {
+    for name in by_rule() {
+        let text = text(&name, "txt");
+        let guess = section(&text, "claim")[0].replace("guess ", "");
+        let mut constants = section(&text, "terms");
+        constants.retain(|term| PUBLIC.contains(&term.as_str()) && *term != guess);
+        let known = section(&text, "knowledge");
+        assert!(known.starts_with(&constants), "{name}: {constants:?}, known are {known:?}");
+    }
+}
+
+/// By knowledge, derivation or claim, or as a part of a term that is needed.
+#[test]
+fn each_listed_term_is_needed() {
+    for name in by_rule() {
+        let bodies = Bodies::read(&submission(&name)).expect("it has its bodies");
+        let mut needed = vec![false; 256];
+        bodies.knowledge.iter().for_each(|&term| needed[usize::from(term)] = true);
+        bodies
+            .derivation
+            .iter()
+            .flat_map(|step| &step[1..])
+            .for_each(|&t| needed[usize::from(t)] = true);
+        needed[usize::from(bodies.claim[0])] = true;
+        for (number, [kind, parts @ ..]) in bodies.terms.iter().enumerate().rev() {
+            assert!(needed[number], "{name}: term {number}");
+            if *kind > 3 {
+                parts.iter().for_each(|&part| needed[usize::from(part)] = true);
+            }
+        }
     }
 }
 
