@@ -6,5 +6,6 @@ pub mod bodies;
 pub mod examples;
 pub mod generate;
 pub mod notation;
+pub mod output;
 pub mod reference;
 pub mod tables;

@@ -2,7 +2,8 @@
 //! asked, and its answer; a refusal is `refused`, its number and its place.
 //!
 //! A refused submission ends with 0: it is an answer. The status is 1 where the file is not read or
-//! the output not written.
+//! the output not written; an output that is closed goes unnoticed, since Rust's library opens
+//! /dev/null in its place.
 
 use std::env;
 use std::fs;

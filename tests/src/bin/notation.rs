@@ -1,11 +1,11 @@
 //! `notation assemble FILE` writes the submission that a text describes; `notation show FILE`
 //! writes the text of a submission.
 
-use std::io::Write;
 use std::process::ExitCode;
-use std::{env, fs, io};
+use std::{env, fs};
 
 use checker_tests::notation::{assemble, show};
+use checker_tests::output;
 
 fn main() -> ExitCode {
     let arguments: Vec<String> = env::args().skip(1).collect();
@@ -14,7 +14,7 @@ fn main() -> ExitCode {
         ["show", file] => shown(file),
         _ => Err("usage: notation assemble FILE | notation show FILE".to_string()),
     };
-    match result.and_then(|bytes| io::stdout().write_all(&bytes).map_err(|e| e.to_string())) {
+    match result.and_then(|bytes| output::write(&bytes).map_err(|e| format!("not written: {e}"))) {
         Ok(()) => ExitCode::SUCCESS,
         Err(message) => {
             eprintln!("{message}");
