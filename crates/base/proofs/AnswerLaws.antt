@@ -1,11 +1,12 @@
--- Laws of answers: when the checks pass, and when a call is done or refuses.
-use mathlib.Core.Path.{_≡_, refl, sym}
+-- Laws of answers: when the checks pass, when a call is done or refuses, and what it leaves on its page.
+use mathlib.Core.Path.{_≡_, refl, sym, ap}
 use mathlib.Core.Logic.{_↔_}
 use mathlib.Core.Bool.{Bool, true, false}
 use mathlib.Core.Option.{Option, none, some}
+use mathlib.Core.List.{List}
 use Prim.Native.Nat.{ℕ}
 use native.Mathlib.Omega.{arith}
-use Rattle.base.specs.Answer.{done, refused}
+use Rattle.base.specs.Answer.{Answer, done, refused, pageAfter}
 use Rattle.base.specs.Computed.{Check, passes, fails, failsAt, failsIf, andThen, answered}
 
 -- a failed check has not passed, and a refusal is not done
@@ -34,3 +35,7 @@ answered-done (fails number place) m n = (refused-not-done, λ u. fails-not-pass
 pub answered-refused : (c : Check) (m n p : ℕ) → (answered c (done m) ≡ refused n p) ↔ (c ≡ fails n p)
 answered-refused passes m n p = (λ e. refused-not-done (sym e), λ e. fails-not-passes (sym e))
 answered-refused (fails number place) m n p = (λ e. cc, λ e. cc)
+
+-- "Every refusal carries number and place, and the page keeps its bytes."
+pub refused-page : {a : Answer} (bytes page : List ℕ) {number place : ℕ} → a ≡ refused number place → pageAfter a bytes page ≡ page
+refused-page bytes page e = ap (λ x. pageAfter x bytes page) e

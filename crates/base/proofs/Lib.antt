@@ -7,6 +7,7 @@ pub mod Map
 pub mod Order
 pub mod Overwrite
 pub mod Parts
+pub mod PutLaws
 pub mod RefusalLaws
 pub mod Says
 pub mod Scan

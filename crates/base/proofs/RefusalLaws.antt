@@ -1,7 +1,7 @@
 -- Laws of refusals: checks that answer as rows of the table of verdicts say, one alone and one after the other; and that the rows then
 -- determine the answer.
 use mathlib.Core.Path.{_≡_, refl, sym, _∙_, subst}
-use mathlib.Core.Logic.{_↔_, inl, inr, ⊎-elim}
+use mathlib.Core.Logic.{_↔_, _⊎_, inl, inr, ⊎-elim}
 use mathlib.Core.Bool.{Bool, true, false, true≢false, false≢true}
 use mathlib.Core.List.{List, [], _∷_, _++_}
 use mathlib.Core.Option.{Option, none, some}
@@ -34,6 +34,16 @@ clear-refuses : (rows : List (ℕ → ℕ → Type 0)) (n p : ℕ) → Clear row
 clear-refuses [] n p c a = a
 clear-refuses (r ∷ rows) n p c (inl a) = c .0 n p (a .holds)
 clear-refuses (r ∷ rows) n p c (inr (d, a)) = clear-refuses rows n p (c .1) a
+
+-- ---- some row holds where there is a refusal
+abbrev pub Held : List (ℕ → ℕ → Type 0) → ℕ → ℕ → Type 0
+Held [] n p = ⊥
+Held (Row ∷ later) n p = Row n p ⊎ Held later n p
+
+pub refuses-held : (rows : List (ℕ → ℕ → Type 0)) (n p : ℕ) → Refuses rows n p → Held rows n p
+refuses-held [] n p a = a
+refuses-held (r ∷ rows) n p (inl a) = inl (a .holds)
+refuses-held (r ∷ rows) n p (inr (c, a)) = inr (refuses-held rows n p a)
 
 -- ---- checks that answer as the rows say
 pub record Tells (c : Check) (rows : List (ℕ → ℕ → Type 0)) : Type 0 where

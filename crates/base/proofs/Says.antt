@@ -95,3 +95,7 @@ says-any {P} p n h = go (first p n) refl
     go : (o : Option ℕ) → first p n ≡ o → Says (isSome o) ((k : ℕ) × (k < n) × P k)
     go none e = (λ i. absurd (false≢true i), λ (k, l, x). absurd (true≢false (sym (h k l .1 x) ∙ first-none p n e k l)))
     go (some i) e = let r = first-some p n i e in (λ _. (i, r .0, h i (r .0) .0 (r .1)), λ _. refl)
+
+pub any-false : (p : ℕ → Bool) (n : ℕ) → any p n ≡ false → (k : ℕ) → k < n → p k ≡ false
+any-false p n e k l =
+    ⊎-elim (λ t. absurd (denies (any p n) (says-any p n (λ j m. says-true (p j))) .0 e (k, l, t))) (λ f. f) (true-or-false (p k))

@@ -1,6 +1,6 @@
 -- What a call answers, promises and leaves on its page, and what the table of verdicts and its order mean: document 01, 'Verdicts'.
 use Rattle.base.specs.declared.Answer.the-variants as given
-use Rattle.base.specs.{declared.Answer.Answer as AnswerGiven, Words._≡_, Words._⊎_, Words.List, Words.[], Words._∷_, Words._++_, Words.ℕ, Words._<_, Words._≤_, Words.length, Words.drop}
+use Rattle.base.specs.{declared.Answer.Answer as AnswerGiven, Words._≡_, Words._⊎_, Words.List, Words.[], Words._∷_, Words._++_, Words.ℕ, Words._+_, Words._-_, Words._<_, Words._≤_, Words.min, Words.length, Words.drop, Words.sets}
 
 -- "An acceptance carries N"; deducible's yes and no are 1 and 0, and so is the signal. "Every refusal carries number and place."
 pub data Answer : Type 0 where
@@ -21,6 +21,11 @@ answerOf (given.Refused number place) = refused number place
 pub record Writes (Says : Answer → Type 0) (a : Answer) (written page page′ : List ℕ) : Type 0 where
   pub answer : Says a
   pub bytes : page′ ≡ pageAfter a written page
+
+-- the bytes are stored in the buffer old from place i on, as far as the buffer reaches: new is the buffer afterwards, j the place reached
+pub record Puts (old : List ℕ) (i : ℕ) (bytes new : List ℕ) (j : ℕ) : Type 0 where
+  pub stored : new ≡ sets old i bytes
+  pub place : j ≡ i + min (length bytes) (length old - i)
 
 -- a row of the table: its number, and what it says of its place
 abbrev pub numbered : ℕ → (ℕ → Type 0) → ℕ → ℕ → Type 0

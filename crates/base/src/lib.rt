@@ -2,8 +2,9 @@
 // of a scan and a list grown at its end.
 // Promises: every function is total, and its answer is what the definitions of specs/ give.
 ghost use mathlib.Core.Path.{_≡_};
+ghost use mathlib.Core.List.{[], _∷_};
 ghost use Prim.Native.Nat.{_+_, _*_, _<_};
-ghost use Rattle.base.specs.Answer.{done, answerOf};
+ghost use Rattle.base.specs.Answer.{done, answerOf, Puts};
 ghost use Rattle.base.specs.Words.{byte as byteAt};
 ghost use Rattle.base.specs.Code.{checkOf};
 ghost use Rattle.base.specs.Computed.{answered};
@@ -56,4 +57,30 @@ pub fn word(s: &[u8], i: usize) -> usize
     ensures { λ r. ⌜ r ≡ byteAt (now (s .entry)) i * 256 + byteAt (now (s .entry)) (i + 1) ⌝ }
 {
     wide(byte(s, i)) * 256 + wide(byte(s, i + 1))
+}
+
+// ---- Writing.
+
+// Stores b at this place and gives the place after it; where the buffer is full, nothing is stored and the place stays.
+pub fn put(out: &mut [u8], at: usize, b: u8) -> usize
+    ensures { λ r. ⌜ Puts (now (out .entry)) at (b ∷ []) (now (out .exit)) r ⌝ }
+{
+    if at < out.len() {
+        out[at] = b;
+        return at + 1;
+    }
+    at
+}
+
+// Stores bytes one after the other, as far as the buffer reaches.
+pub fn put_bytes(out: &mut [u8], from: usize, bytes: &[u8]) -> usize
+    ensures { λ r. ⌜ Puts (now (out .entry)) from (now (bytes .entry)) (now (out .exit)) r ⌝ }
+{
+    let mut at = from;
+    let mut i = 0;
+    while i < bytes.len() {
+        at = put(out, at, bytes[i]);
+        i += 1;
+    }
+    at
 }

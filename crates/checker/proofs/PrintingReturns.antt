@@ -4,11 +4,11 @@ use mathlib.Core.List.{List}
 use Prim.Native.Nat.{ℕ, _<_}
 use native.Mathlib.Omega.{arith}
 use lib.ListN.{replicate, length-replicate}
-use Rattle.base.specs.Answer.{Answer, done, refused}
+use Rattle.base.specs.Answer.{Answer, done, refused, Puts}
 use Rattle.base.specs.Words.{Bytes}
 use Rattle.submission.specs.Record.{entries}
 use Rattle.submission.proofs.theory.ReadingRows.{claimed-clear}
-use Rattle.text.specs.Text.{answerText, refusedText, Puts}
+use Rattle.text.specs.Text.{answerText, refusedText}
 use Rattle.text.proofs.theory.TextLength.{accepted-whole, refused-whole}
 use Rattle.conditions.specs.declared.Verdict.{Verdict}
 use Rattle.conditions.specs.declared.Verdict.the-variants.{Accepted, Refused}

@@ -1,7 +1,8 @@
 -- What the calls promise that stand in this crate: those for C, and `write_verdict`.
-use Rattle.base.specs.{Words._≡_, Words.List, Words.ℕ, Words._+_, Words._*_, Words._≤_, Words.length, Words.take, Words.replicate, Answer.Answer, Answer.done, Answer.refused, Answer.Writes, Answer.pageAfter}
-use Rattle.submission.specs.Record.{entries}
-use Rattle.text.specs.{Text.Puts, Text.answerText}
+use Rattle.base.specs.{Words._≡_, Words.List, Words.ℕ, Words._+_, Words._*_, Words._≤_, Words.length, Words.take, Words.replicate, Answer.Answer, Answer.done, Answer.refused, Answer.Writes, Answer.Puts, Answer.pageAfter}
+use Rattle.submission.specs.{Record.entries, Body.Bodies, Body.submissionOf}
+use Rattle.form.specs.Computed.{writeAnswer}
+use Rattle.text.specs.Text.{answerText}
 use Rattle.program.specs.Program.{bytesOf}
 use Rattle.conditions.specs.{Calls.program, Computed.checkAnswer}
 
@@ -13,6 +14,10 @@ encoded (refused number place) = number * 65536 + place
 -- `checker_check`: the number r is the answer, and the page is that of checking
 abbrev pub Encoded : List ℕ → List ℕ → ℕ → List ℕ → Type 0
 Encoded s page r page′ = Writes (λ a. r ≡ encoded a) (checkAnswer s (length page)) (bytesOf (program s)) page page′
+
+-- `checker_write`: the number r is the answer, and the page is that of writing
+abbrev pub EncodedWritten : Bodies → List ℕ → ℕ → List ℕ → Type 0
+EncodedWritten b page r page′ = Writes (λ a. r ≡ encoded a) (writeAnswer b (length page)) (submissionOf b) page page′
 
 -- what the program `verdict` prints of a submission, "with a page of 388 bytes": document 01, after 'Marked examples'
 unfoldable pub verdictText : List ℕ → List ℕ

@@ -2,9 +2,10 @@
 use base::Answer;
 ghost use mathlib.Core.Path.{_≡_};
 ghost use Rattle.base.specs.Answer.{answerOf};
+ghost use Rattle.submission.specs.Body.{bodies};
 ghost use Rattle.deduction.specs.Computed.{deducibleAnswer};
 ghost use Rattle.machine.specs.Computed.{runAnswer};
-ghost use Rattle.checker.specs.Calls.{encoded, Encoded};
+ghost use Rattle.checker.specs.Calls.{encoded, Encoded, EncodedWritten};
 
 // An answer as one number.
 fn encode(answer: Answer) -> u32
@@ -36,4 +37,17 @@ pub extern "C" fn checker_run(sub: &[u8], name: u16, program: &[u8]) -> u32
     ensures { λ r. ⌜ r ≡ encoded (runAnswer (now (sub .entry)) name (now (program .entry))) ⌝ }
 {
     encode(machine::run(sub, name, program))
+}
+
+#[no_mangle]
+pub extern "C" fn checker_write(
+    terms: &[u8],
+    knowledge: &[u8],
+    derivation: &[u8],
+    claim: &[u8],
+    page: &mut [u8],
+) -> u32
+    ensures { λ r. ⌜ EncodedWritten (bodies (now (terms .entry)) (now (knowledge .entry)) (now (derivation .entry)) (now (claim .entry))) (now (page .entry)) r (now (page .exit)) ⌝ }
+{
+    encode(form::write(terms, knowledge, derivation, claim, page))
 }

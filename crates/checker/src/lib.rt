@@ -1,10 +1,11 @@
-// The public calls together: `check`, `deducible` and `run`, the text of a verdict, and the calls for C.
+// The public calls together: `check`, `deducible`, `run` and `write`, the text of a verdict, and the calls for C.
 // Promises: every call is total, for all bytes, and its answer and the bytes that it writes are what the definitions of specs/ give.
 mod calls;
 
 use conditions::Verdict;
 pub use conditions::check;
 pub use deduction::deducible;
+pub use form::write;
 pub use machine::run;
 ghost use lib.ListN.{replicate};
 ghost use Rattle.conditions.specs.Calls.{Checked};

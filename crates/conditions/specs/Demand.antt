@@ -1,18 +1,10 @@
--- Demands 1 to 3. What the definitions promise; the contracts of the calls say that the code answers what they give.
-use Rattle.base.specs.{Words._≡_, Words._↔_, Words.List, Words.ℕ, Words._≤_, Words.length, Words.take, Words.drop, Words.Bytes, Answer.Answer, Answer.done, Answer.pageAfter, Answer.Answers}
+-- Demands 2 and 3. What the definitions promise; the contracts of the calls say that the code answers what they give.
+use Rattle.base.specs.{Words._≡_, Words._↔_, Words.List, Words.ℕ, Words._≤_, Words.length, Words.take, Words.drop, Words.Bytes, Answer.done, Answer.pageAfter}
 use Rattle.term.specs.Term.{Fresh}
 use Rattle.submission.specs.Record.{steps, guess, nameAt, InKnowledge}
-use Rattle.deduction.specs.{Deduce.deducibleRows, Deduce.DeducibleValue, Computed.deducibleAnswer}
 use Rattle.program.specs.Program.{bytesOf, programLength}
-use Rattle.machine.specs.{Run.guessed, Run.signal, Run.runRows, Computed.runAnswer}
-use Rattle.conditions.specs.{Condition.WellFormed, Condition.FiveConditions, Condition.checkRows, Calls.program, Computed.checkAnswer}
-
--- Demand 1: "each fault is refused by its number". What each call answers, for every answer: the refusal that the rows and their order give,
--- or else the count of steps, whether the term is deducible, the signal.
-pub record Demand1 : Type 0 where
-  pub check : (s : List ℕ) → Bytes s → (room : ℕ) (a : Answer) → (checkAnswer s room ≡ a) ↔ Answers (checkRows s room) (λ n. n ≡ steps s) a
-  pub deducible : (s : List ℕ) → Bytes s → (n : ℕ) (a : Answer) → (deducibleAnswer s n ≡ a) ↔ Answers (deducibleRows s n) (DeducibleValue s n) a
-  pub run : (s P : List ℕ) (name : ℕ) (a : Answer) → (runAnswer s name P ≡ a) ↔ Answers (runRows s P) (λ v. v ≡ signal s name P) a
+use Rattle.machine.specs.{Run.guessed, Computed.runAnswer}
+use Rattle.conditions.specs.{Condition.WellFormed, Condition.FiveConditions, Calls.program, Computed.checkAnswer}
 
 -- Demand 2: "A submission is accepted exactly when it is well formed, meets the five conditions of document 01 and has a page long enough", and the
 -- acceptance carries N. From right to left it is demand 3's last sentence: "And every submission that is well formed .. is accepted."

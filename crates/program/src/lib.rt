@@ -1,11 +1,12 @@
 // Register programs: a list of instructions and a test, their bytes, and check 13.
 // Promises: every function is total, and its answer is what the definitions of specs/ give.
+use base::put;
 use term::Relation;
 use term::rules;
 ghost use mathlib.Core.Path.{_≡_};
 ghost use mathlib.Core.List.{[], _∷_, _++_};
 ghost use Prim.Native.Nat.{_+_, _*_, _≤_, _<_};
-ghost use lib.ListN.{length, set, drop};
+ghost use lib.ListN.{length, drop};
 ghost use lib.Seq.{sets};
 ghost use Rattle.base.specs.Words.{listed, byte as byteAt};
 ghost use Rattle.term.specs.Code.{relationIs};
@@ -124,15 +125,6 @@ pub fn test_at(program: &[u8]) -> Test
 }
 
 // ---- Writing a program's bytes.
-
-// Stores v at i, where i is within the part.
-fn put(part: &mut [u8], i: usize, v: u8)
-    ensures { λ _. ⌜ now (part .exit) ≡ set (now (part .entry)) i v ⌝ }
-{
-    if i < part.len() {
-        part[i] = v;
-    }
-}
 
 // Stores three bytes from i on.
 fn put_three(part: &mut [u8], i: usize, a: u8, b: u8, c: u8)

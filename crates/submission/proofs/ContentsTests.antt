@@ -1,15 +1,16 @@
 -- Checks 1 and 2, one test at a time: what a byte or a word that was read says of an entry of the contents.
 use mathlib.Core.Path.{_≡_, refl}
 use mathlib.Core.Bool.{Bool, true, false, _||_, not, or-true}
-use mathlib.Core.List.{List}
+use mathlib.Core.List.{List, [], _∷_}
 use Prim.Native.Nat.{ℕ, _*_, _<_, _≤_}
 use lib.Dec.{eqb}
+use lib.ListN.{getD}
 use borrow.Author.Tests.{eq-eqb, ne-eqb, lt-ltb, le-ltb}
 use mathlib.Core.Option.{none, some}
-use Rattle.base.specs.{Computed.any, Words.first, Words.firstFrom, Code.isSome}
+use Rattle.base.specs.{Computed.any, Computed.Check, Words.first, Words.firstFrom, Code.isSome}
 use Rattle.base.specs.Words.{byte}
 use Rattle.submission.specs.Record.{letter, count, least, most}
-use Rattle.submission.specs.Computed.{badCount}
+use Rattle.submission.specs.Computed.{badCount, checkLimits}
 
 module _ (s : List ℕ) (i : ℕ) {r : ℕ} where
   pub letter-wrong : r ≡ byte s (4 * i) → (r ≡ letter i → ⊥) → not (eqb (byte s (4 * i)) (letter i)) ≡ true
@@ -18,14 +19,15 @@ module _ (s : List ℕ) (i : ℕ) {r : ℕ} where
   pub letter-right : r ≡ byte s (4 * i) → r ≡ letter i → not (eqb (byte s (4 * i)) (letter i)) ≡ false
   letter-right e h = rw (← e, eq-eqb _ _ h)
 
-  pub too-few : r ≡ count s i → r < least i → badCount s i ≡ true
-  too-few e h = rw (← e, lt-ltb _ _ h)
+module _ (n : ℕ → ℕ) (i : ℕ) where
+  pub too-few : n i < least i → badCount n i ≡ true
+  too-few h = rw (lt-ltb _ _ h)
 
-  pub too-many : r ≡ count s i → most i < r → badCount s i ≡ true
-  too-many e h = rw (← e, lt-ltb _ _ h, or-true)
+  pub too-many : most i < n i → badCount n i ≡ true
+  too-many h = rw (lt-ltb _ _ h, or-true)
 
-  pub within : r ≡ count s i → least i ≤ r → r ≤ most i → badCount s i ≡ false
-  within e h l = rw (← e, le-ltb _ _ h, le-ltb _ _ l)
+  pub within : least i ≤ n i → n i ≤ most i → badCount n i ≡ false
+  within h l = rw (le-ltb _ _ h, le-ltb _ _ l)
 
 -- "The first start is 16": four starts, one after the other
 pub any-four : (p : ℕ → Bool) → any p 4 ≡ (p 0 || (p 1 || (p 2 || p 3)))
@@ -38,3 +40,9 @@ any-four p = go (p 0) (p 1) (p 2) (p 3)
     go false false true d = refl
     go false false false true = refl
     go false false false false = refl
+
+-- four counts that were read, each byte widened
+pub counts-read : (s : List ℕ) {k : Check} {a b c d t e n v : ℕ} → a ≡ count s 0 → b ≡ count s 1 → c ≡ count s 2 → d ≡ count s 3 →
+    t ≡ a → e ≡ b → n ≡ c → v ≡ d → k ≡ checkLimits (λ i. getD (t ∷ e ∷ n ∷ v ∷ []) i 0) → k ≡ checkLimits (count s)
+unfolding first firstFrom
+counts-read s f g h i f′ g′ h′ i′ e = rw (e, f′, g′, h′, i′, f, g, h, i)

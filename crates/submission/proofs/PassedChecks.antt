@@ -18,7 +18,7 @@ pub body-passes : (s : List ℕ) → checks1to5 s ≡ passes → checks1to4 s �
 unfolding checks1to5
 body-passes s e = then-passes (checks1to4 s) (failsIf (not (goodClaim s)) 5 0) .0 e .0
 
-limit : (s : List ℕ) (i : ℕ) → badCount s i ≡ false → count s i ≤ most i
+limit : (s : List ℕ) (i : ℕ) → badCount (count s) i ≡ false → count s i ≤ most i
 limit s i e = ltb-false (most i) (count s i) (or-false (ltb (count s i) (least i)) (ltb (most i) (count s i)) .0 e .1)
 
 pub limited : (s : List ℕ) → checks1to4 s ≡ passes → Limited s

@@ -74,12 +74,19 @@ ClaimFits s =
     (guess s < terms s) × (((κ : Kind) × (shapeOf (kindAt s (guess s)) ≡ some (atomic κ)))
     × ((w : Way) × (wayOf (wayAt s) ≡ some w) × (InRange s (row w .step) (verifying s) × InRange s (row w .companion) (companion s))))
 
--- 1 contents; 2 count, "T, K, D, V outside its limits"; 3 term; 4 knowledge, "entry not below T, or equal to an earlier one"
+-- 2 count, "T, K, D, V outside its limits", of any four counts
+abbrev pub row2 : (ℕ → ℕ) → ℕ → ℕ → Type 0
+row2 n = numbered 2 (λ i. (i < 4) × ((n i < least i) ⊎ (most i < n i)))
+
+-- 1 contents; 2 count
+abbrev pub rows1and2 : List ℕ → List (ℕ → ℕ → Type 0)
+rows1and2 s = numbered 1 (λ p. (p ≡ 0) × BadContents s) ∷ row2 (count s) ∷ []
+
+-- 3 term; 4 knowledge, "entry not below T, or equal to an earlier one"
 abbrev pub rows1to4 : List ℕ → List (ℕ → ℕ → Type 0)
 rows1to4 s =
-    numbered 1 (λ p. (p ≡ 0) × BadContents s)
-    ∷ numbered 2 (λ i. (i < 4) × ((count s i < least i) ⊎ (most i < count s i)))
-    ∷ numbered 3 (λ i. (i < terms s) × BadTerm s i)
+    rows1and2 s
+    ++ numbered 3 (λ i. (i < terms s) × BadTerm s i)
     ∷ numbered 4 (λ i. (i < entries s) × ((terms s ≤ entryAt s i) ⊎ ((j : ℕ) × (j < i) × (entryAt s j ≡ entryAt s i))))
     ∷ []
 

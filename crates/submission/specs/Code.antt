@@ -1,6 +1,6 @@
 -- What the code's records mean in document 01's terms.
 use mathlib.Core.{Path._≡_, Logic._⊎_, List.List, Option.Option, Option.none, Option.some}
-use Prim.Native.Nat.{ℕ, _≤_, _<_}
+use Prim.Native.Nat.{ℕ, _+_, _*_, _≤_, _<_}
 use lib.ListN.{length, getD}
 use Rattle.submission.specs.declared.Term.{Term}
 use Rattle.submission.specs.declared.Claim.{Claim}
@@ -20,10 +20,10 @@ use Rattle.submission.specs.{Check.Way, Check.another-step, Check.at-sta
 use Rattle.term.specs.Code.{relationIs}
 use Rattle.base.specs.Computed.{Check, passes, fails}
 
--- r is where body i starts
+-- r is where body i starts; a body has at most 255 records of at most 4 bytes
 pub record Starts (s : List ℕ) (i r : ℕ) : Type 0 where
   pub is : r ≡ start s i
-  pub small : r < 4096
+  pub small : r ≤ 16 + 1020 * i
 
 -- t holds the record of term i
 pub record IsTerm (s : List ℕ) (i : ℕ) (t : Term) : Type 0 where

@@ -10,9 +10,12 @@ badContents s =
     || (any (λ i. not (eqb (byte s (4 * i)) (letter i))) 4
     || (any (λ i. not (eqb (byte s (4 * i + 2) * 256 + byte s (4 * i + 3)) (start s i))) 4 || not (eqb (length s) (start s 4))))
 
--- 2 count: "T, K, D, V outside its limits", place "first such entry, 0 to 3"
-abbrev pub badCount : List ℕ → ℕ → Bool
-badCount s i = ltb (count s i) (least i) || ltb (most i) (count s i)
+-- 2 count: "T, K, D, V outside its limits", place "first such entry, 0 to 3", of any four counts
+abbrev pub badCount : (ℕ → ℕ) → ℕ → Bool
+badCount n i = ltb (n i) (least i) || ltb (most i) (n i)
+
+abbrev pub checkLimits : (ℕ → ℕ) → Check
+checkLimits n = failsAt 2 (first (badCount n) 4)
 
 -- "In 4 to 6, x and y number earlier terms", and y is of a kind that the form takes; where there is no second operand, y is 0
 abbrev pub shapeFits : List ℕ → ℕ → Option Shape → Bool
@@ -53,7 +56,7 @@ goodClaim s =
 unfoldable pub checks1to4 : List ℕ → Check
 checks1to4 s =
     andThen (failsIf (badContents s) 1 0)
-    (andThen (failsAt 2 (first (badCount s) 4))
+    (andThen (checkLimits (count s))
     (andThen (failsAt 3 (first (badTerm s) (terms s))) (failsAt 4 (first (badKnowledge s) (entries s)))))
 
 unfoldable pub checks1to5 : List ℕ → Check

@@ -1,3 +1,4 @@
+pub mod Body
 pub mod Check
 pub mod Code
 pub mod Computed

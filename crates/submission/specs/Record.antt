@@ -13,10 +13,13 @@ count s i = byte s (4 * i + 1)
 abbrev pub width : ℕ → ℕ
 width i = getD (3 ∷ 1 ∷ 4 ∷ 4 ∷ []) i 0
 
--- "The first start is 16, each later start is where the former body ends"; start 4 is where the last body ends
-unfoldable pub start : List ℕ → ℕ → ℕ
-start s zero = 16
-start s (suc i) = start s i + width i * count s i
+-- "The first start is 16, each later start is where the former body ends", of bodies with these counts; start 4 is where the last body ends
+unfoldable pub startOf : (ℕ → ℕ) → ℕ → ℕ
+startOf n zero = 16
+startOf n (suc i) = startOf n i + width i * n i
+
+abbrev pub start : List ℕ → ℕ → ℕ
+start s i = startOf (count s) i
 
 -- "Counts: T 1 to 250, K 0 to 64, D 0 to 128, V exactly 1."
 abbrev pub least : ℕ → ℕ

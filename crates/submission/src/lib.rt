@@ -11,14 +11,24 @@ ghost use mathlib.Core.Path.{_≡_};
 ghost use mathlib.Core.Bool.{_&&_, not};
 ghost use Prim.Native.Nat.{_+_, _*_, _<_};
 ghost use lib.Dec.{eqb};
+ghost use lib.ListN.{getD};
 ghost use Rattle.base.specs.Words.{first, byte as byteAt};
 ghost use Rattle.term.specs.Number.{shapeOf};
-ghost use Rattle.submission.specs.Record.{letter, start, terms as termCount, entries as entryCount, steps as stepCount, kindAt, xAt, yAt, entryAt, wayAt};
-ghost use Rattle.submission.specs.Computed.{areInverse, badContents, badCount, inRange, claimFits, shapeFits, sameRecord, badTerm, badKnowledge, goodClaim, checks1to4, checks1to5};
+ghost use Rattle.submission.specs.Record.{letter, count as countIn, start, terms as termCount, entries as entryCount, steps as stepCount, kindAt, xAt, yAt, entryAt, wayAt};
+ghost use Rattle.submission.specs.Computed.{areInverse, badContents, checkLimits, inRange, claimFits, shapeFits, sameRecord, badTerm, badKnowledge, goodClaim, checks1to4, checks1to5};
 ghost use Rattle.submission.specs.Check.{wayOf, row};
 ghost use Rattle.base.specs.Computed.{any, failsAt, failsIf};
 ghost use Rattle.base.specs.Code.{checkOf};
 ghost use Rattle.submission.specs.Code.{Starts, IsTerm, wayIs, letterIs, rangeIs, rowIs, IsClaimBytes, IsClaim, readingCheck, ReadingIs, Chained};
+
+// The bytes of one record of each body.
+pub const TERM_WIDTH: usize = 3;
+
+pub const ENTRY_WIDTH: usize = 1;
+
+pub const STEP_WIDTH: usize = 4;
+
+pub const CLAIM_WIDTH: usize = 4;
 
 pub fn terms(s: &[u8]) -> u8
     ensures { λ r. ⌜ r ≡ termCount (now (s .entry)) ⌝ }
@@ -41,26 +51,26 @@ pub fn steps(s: &[u8]) -> u8
 pub fn knowledge_start(s: &[u8]) -> usize
     ensures { λ r. ⌜ Starts (now (s .entry)) 1 r ⌝ }
 {
-    16 + 3 * wide(byte(s, 1))
+    16 + TERM_WIDTH * wide(byte(s, 1))
 }
 
 pub fn derivation_start(s: &[u8]) -> usize
     ensures { λ r. ⌜ Starts (now (s .entry)) 2 r ⌝ }
 {
-    16 + 3 * wide(byte(s, 1)) + wide(byte(s, 5))
+    knowledge_start(s) + ENTRY_WIDTH * wide(byte(s, 5))
 }
 
 pub fn claim_start(s: &[u8]) -> usize
     ensures { λ r. ⌜ Starts (now (s .entry)) 3 r ⌝ }
 {
-    16 + 3 * wide(byte(s, 1)) + wide(byte(s, 5)) + 4 * wide(byte(s, 9))
+    derivation_start(s) + STEP_WIDTH * wide(byte(s, 9))
 }
 
 // Where the last body ends.
 fn end(s: &[u8]) -> usize
     ensures { λ r. ⌜ Starts (now (s .entry)) 4 r ⌝ }
 {
-    16 + 3 * wide(byte(s, 1)) + wide(byte(s, 5)) + 4 * wide(byte(s, 9)) + 4 * wide(byte(s, 13))
+    claim_start(s) + CLAIM_WIDTH * wide(byte(s, 13))
 }
 
 // A term's record.
@@ -73,7 +83,7 @@ pub struct Term {
 pub fn term_at(s: &[u8], i: u8) -> Term
     ensures { λ r. ⌜ IsTerm (now (s .entry)) i r ⌝ }
 {
-    let at = 16 + 3 * wide(i);
+    let at = 16 + TERM_WIDTH * wide(i);
     Term {
         kind: byte(s, at),
         x: byte(s, at + 1),
@@ -184,21 +194,22 @@ pub fn check_contents(s: &[u8]) -> Stage
 }
 
 // ---- Check 2, count.
-pub fn check_counts(s: &[u8]) -> Stage
-    ensures { λ r. ⌜ checkOf r ≡ failsAt 2 (first (badCount (now (s .entry))) 4) ⌝ }
+
+// The limits of any four counts.
+pub fn check_limits(counts: [usize; 4]) -> Stage
+    ensures { λ r. ⌜ checkOf r ≡ checkLimits (λ i. getD counts i 0) ⌝ }
 {
-    let least: [u8; 4] = [1, 0, 0, 1];
-    let most: [u8; 4] = [250, 64, 128, 1];
+    let least: [usize; 4] = [1, 0, 0, 1];
+    let most: [usize; 4] = [250, 64, 128, 1];
     let mut i = 0;
     while i < 4 {
-        let count = byte(s, 4 * i + 1);
-        if count < least[i] {
+        if counts[i] < least[i] {
             return Stage::Refused {
                 number: 2,
                 place: i as u16,
             };
         }
-        if most[i] < count {
+        if most[i] < counts[i] {
             return Stage::Refused {
                 number: 2,
                 place: i as u16,
@@ -207,6 +218,17 @@ pub fn check_counts(s: &[u8]) -> Stage
         i += 1;
     }
     Stage::Passed
+}
+
+pub fn check_counts(s: &[u8]) -> Stage
+    ensures { λ r. ⌜ checkOf r ≡ checkLimits (countIn (now (s .entry))) ⌝ }
+{
+    check_limits([
+        wide(byte(s, 1)),
+        wide(byte(s, 5)),
+        wide(byte(s, 9)),
+        wide(byte(s, 13)),
+    ])
 }
 
 // ---- Check 3, term.

@@ -13,7 +13,7 @@ use Rattle.base.specs.Words.{listed}
 use Rattle.term.specs.Number.{rules, wordOf, hasOne}
 use Rattle.term.proofs.Numbered.{same-below}
 use Rattle.term.proofs.Rule.{no-word}
-use Rattle.base.specs.Answer.{done}
+use Rattle.base.specs.Answer.{done, Puts}
 use Rattle.program.specs.Program.{relationOf, relationWord, rowOf, Instruction, instructionAt, testAt}
 use Rattle.term.specs.declared.Relation.{Relation}
 use Rattle.term.specs.Code.{relationIs}
@@ -22,8 +22,8 @@ use Rattle.program.specs.declared.Asked.the-variants.{Asks, Nothing}
 use Rattle.program.specs.declared.Instruction.{Instruction as InstructionRead}
 use Rattle.program.specs.declared.Test.{Test as TestRead}
 use Rattle.program.specs.Code.{relationIn, instructionIn, testIn}
-use Rattle.text.specs.Text.{decimal, space, newline, registerText, secondText, stepLine, stepLines, testLine, refusedText, answerText, Puts}
-use Rattle.text.proofs.theory.PutLaws.{puts-none, puts-then}
+use Rattle.text.specs.Text.{decimal, space, newline, registerText, secondText, stepLine, stepLines, testLine, refusedText, answerText}
+use Rattle.base.proofs.PutLaws.{puts-none, puts-then}
 
 pub register-put : {a b c : List ℕ} {i j k : ℕ} (r : ℕ) → Puts a i (0x72 ∷ []) b j → Puts b j (decimal r) c k → Puts a i (registerText r) c k
 register-put r p q = puts-then p q

@@ -1,4 +1,3 @@
 -- Theory: laws and theorems about the definitions. What is beside it serves the proofs of single functions.
 pub mod Decimal
-pub mod PutLaws
 pub mod TextLength

@@ -1,5 +1,5 @@
 -- What the program `verdict` prints, as bytes: document 01, after 'Marked examples'.
-use Rattle.base.specs.{Words._≡_, Words._-_, Words.min, Words.length, Words.sets, Words.true, Words.false, Words.cond, Words.List, Words.[], Words._∷_, Words._++_, Words.ℕ, Words.zero, Words.suc, Words._+_, Words._/_, Words._%_, Words.ltb, Answer.Answer, Answer.done, Answer.refused}
+use Rattle.base.specs.{Words.true, Words.false, Words.cond, Words.List, Words.[], Words._∷_, Words._++_, Words.ℕ, Words.zero, Words.suc, Words._+_, Words._/_, Words._%_, Words.ltb, Answer.Answer, Answer.done, Answer.refused}
 use Rattle.term.specs.Number.{wordOf, hasOne}
 use Rattle.program.specs.Program.{relationOf, relationWord, Instruction, instructionAt, testAt}
 
@@ -51,8 +51,3 @@ unfoldable pub answerText : ℕ → Answer → List ℕ → List ℕ
 answerText known (done n) page =
     (0x61 ∷ 0x63 ∷ 0x63 ∷ 0x65 ∷ 0x70 ∷ 0x74 ∷ 0x65 ∷ 0x64 ∷ []) ++ space ++ decimal n ++ newline ++ stepLines (known + 1) page n ++ testLine (testAt page)
 answerText known (refused number place) page = refusedText number place
-
--- the text is stored in the buffer old from place i on, as far as the buffer reaches: new is the buffer afterwards, j the place reached
-pub record Puts (old : List ℕ) (i : ℕ) (text new : List ℕ) (j : ℕ) : Type 0 where
-  pub bytes : new ≡ sets old i text
-  pub place : j ≡ i + min (length text) (length old - i)

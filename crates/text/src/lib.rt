@@ -1,6 +1,8 @@
 // The text that the program `verdict` prints, written into a buffer that the caller lends.
 // Promises: every function is total. What it writes is the text that a definition of specs/ gives, as far as the buffer reaches,
 // no other byte changes, and the result is the place reached (`Puts`).
+use base::put;
+use base::put_bytes;
 use base::wide;
 use base::wide16;
 use program::Asked;
@@ -12,32 +14,9 @@ ghost use mathlib.Core.List.{[], _∷_};
 ghost use Prim.Native.Nat.{_+_, _<_};
 ghost use lib.Dec.{eqb};
 ghost use Rattle.term.specs.Number.{wordOf};
-ghost use Rattle.base.specs.Answer.{done};
+ghost use Rattle.base.specs.Answer.{done, Puts};
 ghost use Rattle.program.specs.Program.{relationOf, relationWord, instructionAt, testAt};
-ghost use Rattle.text.specs.Text.{decimal, registerText, secondText, stepLine, stepLines, testLine, answerText, refusedText, Puts};
-
-// One byte; none where the buffer is full.
-fn put(out: &mut [u8], at: usize, b: u8) -> usize
-    ensures { λ r. ⌜ Puts (now (out .entry)) at (b ∷ []) (now (out .exit)) r ⌝ }
-{
-    if at < out.len() {
-        out[at] = b;
-        return at + 1;
-    }
-    at
-}
-
-fn put_word(out: &mut [u8], from: usize, word: &[u8]) -> usize
-    ensures { λ r. ⌜ Puts (now (out .entry)) from (now (word .entry)) (now (out .exit)) r ⌝ }
-{
-    let mut at = from;
-    let mut i = 0;
-    while i < word.len() {
-        at = put(out, at, word[i]);
-        i += 1;
-    }
-    at
-}
+ghost use Rattle.text.specs.Text.{decimal, registerText, secondText, stepLine, stepLines, testLine, answerText, refusedText};
 
 fn digit(n: u16) -> u8
     requires { ⌜ n < 10 ⌝ }
@@ -106,7 +85,7 @@ fn put_step(out: &mut [u8], from: usize, r: u16, page: &[u8], i: u8) -> usize
 {
     let read = program::instruction_at(page, i);
     let at = put_register(out, from, r);
-    let at = put_word(out, at, b" = ");
+    let at = put_bytes(out, at, b" = ");
     let at = put_rule(out, at, read.rule);
     let at = put(out, at, b' ');
     let at = put_register(out, at, wide16(read.left));
@@ -135,8 +114,8 @@ fn put_relation(out: &mut [u8], at: usize, letter: u8) -> usize
         return at;
     };
     match relation {
-        Relation::Equal => put_word(out, at, b"="),
-        Relation::Inverse => put_word(out, at, b"hasinv"),
+        Relation::Equal => put_bytes(out, at, b"="),
+        Relation::Inverse => put_bytes(out, at, b"hasinv"),
     }
 }
 
@@ -144,7 +123,7 @@ fn put_test(out: &mut [u8], from: usize, page: &[u8]) -> usize
     ensures { λ r. ⌜ Puts (now (out .entry)) from (testLine (testAt (now (page .entry)))) (now (out .exit)) r ⌝ }
 {
     let t = program::test_at(page);
-    let at = put_word(out, from, b"signal ");
+    let at = put_bytes(out, from, b"signal ");
     let at = put_register(out, at, wide16(t.left));
     let at = put(out, at, b' ');
     let at = put_relation(out, at, t.letter);
@@ -157,7 +136,7 @@ fn put_test(out: &mut [u8], from: usize, page: &[u8]) -> usize
 pub fn write_accepted(out: &mut [u8], known: u8, n: u8, page: &[u8]) -> usize
     ensures { λ r. ⌜ Puts (now (out .entry)) 0 (answerText known (done n) (now (page .entry))) (now (out .exit)) r ⌝ }
 {
-    let at = put_word(out, 0, b"accepted ");
+    let at = put_bytes(out, 0, b"accepted ");
     let at = put_number(out, at, wide16(n));
     let at = put(out, at, b'\n');
     let at = put_steps(out, at, wide16(known) + 1, page, n);
@@ -168,7 +147,7 @@ pub fn write_accepted(out: &mut [u8], known: u8, n: u8, page: &[u8]) -> usize
 pub fn write_refused(out: &mut [u8], number: u8, place: u16) -> usize
     ensures { λ r. ⌜ Puts (now (out .entry)) 0 (refusedText number place) (now (out .exit)) r ⌝ }
 {
-    let at = put_word(out, 0, b"refused ");
+    let at = put_bytes(out, 0, b"refused ");
     let at = put_number(out, at, wide16(number));
     let at = put(out, at, b' ');
     let at = put_number(out, at, place);

@@ -14,10 +14,11 @@ use Rattle.term.specs.Reduce.{op, cancelled, parted, paired}
 use Rattle.term.specs.Computed.{match?, isKey?, ruleTakesApart}
 use Rattle.term.specs.Number.{shapeOf, headOf, wordOf, hasOne}
 use Rattle.base.specs.Answer.{Answer, done, refused, pageAfter}
-use Rattle.submission.specs.Record.{start, secondAt}
+use Rattle.submission.specs.Record.{startOf, secondAt}
 use Rattle.submission.specs.{Record.recordAt, Record.term, Computed.areInverse}
 use Rattle.submission.specs.Check.{wayOf}
 use Rattle.base.specs.Computed.{any}
+use Rattle.form.proofs.theory.Examples.{m1-bytes}
 use Rattle.derivation.specs.Step.{registerTerm}
 use Rattle.derivation.specs.{Computed.badStep, Computed.unfounded, Computed.checkSteps}
 use Rattle.deduction.specs.Computed.{builtWithin, round, rounds, entryMarks, isDeducible, deducibleAnswer}
@@ -61,8 +62,7 @@ refusal bytes number place digits =
 abbrev pub m1 : Example
 m1 =
     record {
-      bytes =
-          0x54 ∷ 0x03 ∷ 0x00 ∷ 0x10 ∷ 0x4B ∷ 0x02 ∷ 0x00 ∷ 0x19 ∷ 0x44 ∷ 0x01 ∷ 0x00 ∷ 0x1B ∷ 0x56 ∷ 0x01 ∷ 0x00 ∷ 0x1F ∷ 0x01 ∷ 0x00 ∷ 0x01 ∷ 0x01 ∷ 0x00 ∷ 0x02 ∷ 0x05 ∷ 0x00 ∷ 0x01 ∷ 0x00 ∷ 0x02 ∷ 0x04 ∷ 0x02 ∷ 0x01 ∷ 0x00 ∷ 0x01 ∷ 0x00 ∷ 0x62 ∷ 0x00 ∷ [];
+      bytes = m1-bytes;
       page = replicate 9 0xA5;
       names = 2 ∷ 3 ∷ [];
       wanted =
@@ -266,7 +266,7 @@ want e = e .wanted
 
 -- the one computed fact
 pub table-right : map got table ≡ map want table
-unfolding first firstFrom any grow decoded op cancelled parted paired match? isKey? headOf wordOf hasOne ruleTakesApart start badContents shapeOf recordAt term areInverse wayOf badTerm badKnowledge goodClaim checks1to4 checks1to5 registerTerm secondAt badStep unfounded checkSteps builtWithin round rounds entryMarks isDeducible relationOf instructionBytes bytesOf instructionAt badInstruction badTest badProgram guessed initial executed registers signals signal runAnswer reachable samePremises undoesStep undone checks1to10 checkAnswer lowest instruction program digits stepLine testLine stepLines answerText verdictText Dec·and ℕ-discrete
+unfolding first firstFrom any grow decoded op cancelled parted paired match? isKey? headOf wordOf hasOne ruleTakesApart startOf badContents shapeOf recordAt term areInverse wayOf badTerm badKnowledge goodClaim checks1to4 checks1to5 registerTerm secondAt badStep unfounded checkSteps builtWithin round rounds entryMarks isDeducible relationOf instructionBytes bytesOf instructionAt badInstruction badTest badProgram guessed initial executed registers signals signal runAnswer reachable samePremises undoesStep undone checks1to10 checkAnswer lowest instruction program digits stepLine testLine stepLines answerText verdictText Dec·and ℕ-discrete
 table-right = refl
 
 -- what it says of each example
@@ -326,7 +326,7 @@ call-want (run s name P a) = a
 
 -- the computed fact of these calls
 pub calls-right : map call-got calls ≡ map call-want calls
-unfolding first firstFrom any grow decoded op cancelled parted match? headOf hasOne start badContents shapeOf recordAt term wayOf badTerm badKnowledge goodClaim checks1to4 checks1to5 builtWithin round rounds entryMarks isDeducible relationOf instructionAt badInstruction badTest badProgram guessed initial executed registers signals signal runAnswer deducibleAnswer Dec·and ℕ-discrete
+unfolding first firstFrom any grow decoded op cancelled parted match? headOf hasOne startOf badContents shapeOf recordAt term wayOf badTerm badKnowledge goodClaim checks1to4 checks1to5 builtWithin round rounds entryMarks isDeducible relationOf instructionAt badInstruction badTest badProgram guessed initial executed registers signals signal runAnswer deducibleAnswer Dec·and ℕ-discrete
 calls-right = refl
 
 -- what it says of each call

@@ -1,15 +1,22 @@
--- The demands, from what the calls themselves return: a verdict and the page after the call, an answer of `deducible` or of `run`.
+-- The demands and A1's promises, from what the calls themselves return: a verdict or an answer, and the page after the call.
 use mathlib.Core.Path.{_≡_, sym, ap, _∙_, subst}
-use mathlib.Core.Logic.{_↔_, Iff·trans}
+use mathlib.Core.Logic.{_↔_, inl, inr, Iff·trans}
 use mathlib.Core.List.{List}
 use Prim.Native.Nat.{ℕ, _≤_}
-use lib.ListN.{length, take}
+use native.Mathlib.Omega.{arith}
+use lib.ListN.{length, take, drop}
+use lib.Seq.{take-append-seam, drop-append-seam}
 use Rattle.base.specs.declared.Answer.{Answer as AnswerGiven}
 use Rattle.base.specs.declared.Answer.the-variants as given
 use Rattle.base.specs.Answer.{Answer, done, refused, pageAfter, Clear, Refuses, answerOf}
 use Rattle.base.specs.Words.{Bytes}
+use Rattle.base.proofs.AnswerLaws.{refused-page}
+use Rattle.base.proofs.RefusalLaws.{Held, refuses-held}
 use Rattle.term.specs.Step.{Deducible}
 use Rattle.submission.specs.Record.{steps, guess, nameAt, term, InKnowledge}
+use Rattle.submission.specs.{Body.Bodies, Body.bodiesOf, Body.submissionOf, Check.rows1and2}
+use Rattle.form.specs.{Write.writeRows, Write.Reads, Computed.writeAnswer, Calls.Written}
+use Rattle.form.proofs.theory.{WriteAnswer.write-exact, RoundTrip.form-promise}
 use Rattle.deduction.specs.{Deduce.deducibleRows, Computed.deducibleAnswer}
 use Rattle.deduction.proofs.theory.DeducibleAnswer.{deducible-exact, yes-exact, no-exact}
 use Rattle.program.specs.Program.{bytesOf, programLength}
@@ -19,6 +26,11 @@ use Rattle.conditions.specs.declared.Verdict.{Verdict}
 use Rattle.conditions.specs.declared.Verdict.the-variants.{Accepted, Refused}
 use Rattle.conditions.specs.{Calls.verdictAnswer, Calls.Checked, Calls.program, Condition.WellFormed, Condition.FiveConditions, Condition.checkRows, Demand.WrongGuess, Demand.KeptPromise}
 use Rattle.conditions.proofs.theory.{Acceptance.accepted-iff, Promise.demand-3, Refusal.check-exact}
+use Rattle.conditions.specs.Computed.{checkAnswer}
+use Rattle.checker.specs.Demand.{Demand1}
+
+pub demand-1 : Demand1
+demand-1 = record { check = check-exact; deducible = deducible-exact; run = run-exact; write = write-exact }
 
 -- a verdict and an answer tell what they stand for
 same-verdict : (v u : Verdict) → verdictAnswer v ≡ verdictAnswer u → v ≡ u
@@ -40,6 +52,20 @@ returned-verdict v u c = (λ e. sym c ∙ ap verdictAnswer e, λ e. same-verdict
 returned : (r u : AnswerGiven) {a : Answer} → answerOf r ≡ a → (r ≡ u) ↔ (a ≡ answerOf u)
 returned r u c = (λ e. sym c ∙ ap answerOf e, λ e. same-answer r u (c ∙ e))
 
+-- where rows 1 and 2 do not hold, the row that does has a higher number
+from-3 : (s : List ℕ) (room m p : ℕ) → Clear (rows1and2 s) → Held (checkRows s room) m p → 3 ≤ m
+from-3 s room m p c (inl h) = absurd (c .0 m p h)
+from-3 s room m p c (inr (inl h)) = absurd (c .1 .0 m p h)
+from-3 s room m p c (inr (inr (inl (e, _)))) = omega arith
+from-3 s room m p c (inr (inr (inr (inl (e, _))))) = omega arith
+from-3 s room m p c (inr (inr (inr (inr (inl (e, _)))))) = omega arith
+from-3 s room m p c (inr (inr (inr (inr (inr (inl (inl (e, _)))))))) = omega arith
+from-3 s room m p c (inr (inr (inr (inr (inr (inl (inr (e, _)))))))) = omega arith
+from-3 s room m p c (inr (inr (inr (inr (inr (inr (inl (e, _)))))))) = omega arith
+from-3 s room m p c (inr (inr (inr (inr (inr (inr (inr (inl (e, _))))))))) = omega arith
+from-3 s room m p c (inr (inr (inr (inr (inr (inr (inr (inr (inl (e, _)))))))))) = omega arith
+from-3 s room m p c (inr (inr (inr (inr (inr (inr (inr (inr (inr (inl (e, _))))))))))) = omega arith
+
 -- ---- a call of `check` on s and page that returned v and left page′
 module _ (s page page′ : List ℕ) (v : Verdict) (bytes : Bytes s) (call : Checked s page v page′) where
   -- Demand 1: it refuses with n at p exactly when row n holds at p and no row holds that the order puts before it;
@@ -48,7 +74,7 @@ module _ (s page page′ : List ℕ) (v : Verdict) (bytes : Bytes s) (call : Che
 
   -- and then the page is the page before
   pub call-leaves : (n p : ℕ) → v ≡ Refused n p → page′ ≡ page
-  call-leaves n p e = call .bytes ∙ ap (λ x. pageAfter x (bytesOf (program s)) page) (returned-verdict v (Refused n p) (call .answer) .0 e)
+  call-leaves n p e = call .bytes ∙ refused-page (bytesOf (program s)) page (returned-verdict v (Refused n p) (call .answer) .0 e)
 
   -- Demand 2: it accepts exactly the well-formed submissions that meet the five conditions and have page enough
   pub call-accepts : (n : ℕ) → (v ≡ Accepted n) ↔ ((n ≡ steps s) × WellFormed s × FiveConditions s × (programLength (steps s) ≤ length page))
@@ -85,3 +111,45 @@ module _ (s : List ℕ) (t : ℕ) (r : AnswerGiven) (bytes : Bytes s) (call : an
 
   pub call-no : (r ≡ given.Done 0) ↔ (Clear (deducibleRows s t) × (Deducible (InKnowledge s) (term s t) → ⊥))
   call-no = Iff·trans (returned r (given.Done 0) call) (no-exact s bytes t)
+
+-- ---- a call of `write` on the bodies b and page that returned r and left page′
+module _ (b : Bodies) (page page′ : List ℕ) (r : AnswerGiven) (call : Written b page r page′) where
+  pub write-refuses : (n p : ℕ) → (r ≡ given.Refused n p) ↔ Refuses (writeRows b (length page)) n p
+  write-refuses n p = Iff·trans (returned r (given.Refused n p) (call .answer)) (write-exact b (length page) (refused n p))
+
+  pub write-leaves : (n p : ℕ) → r ≡ given.Refused n p → page′ ≡ page
+  write-leaves n p e = call .bytes ∙ refused-page (submissionOf b) page (returned r (given.Refused n p) (call .answer) .0 e)
+
+  pub write-accepts : (n : ℕ) → (r ≡ given.Done n) ↔ (Clear (writeRows b (length page)) × (n ≡ length (submissionOf b)))
+  write-accepts n = Iff·trans (returned r (given.Done n) (call .answer)) (write-exact b (length page) (done n))
+
+  -- where it is done with n, the submission is the first n bytes of the page, and the others are as before;
+  module _ (n : ℕ) (written : r ≡ given.Done n) where
+    answered : writeAnswer b (length page) ≡ done n
+    answered = returned r (given.Done n) (call .answer) .0 written
+
+    pub write-stands : (take n page′ ≡ submissionOf b) × (drop n page′ ≡ drop n page)
+    write-stands =
+        let (_, e) = write-accepts n .0 written in
+        let f = call .bytes ∙ ap (λ x. pageAfter x (submissionOf b) page) answered in
+        (rw (f, e, take-append-seam (submissionOf b) (drop (length (submissionOf b)) page)), rw (f, e, drop-append-seam (submissionOf b) (drop (length (submissionOf b)) page)))
+
+    -- reading them gives the bodies again;
+    pub write-reads : Reads (take n page′) b
+    write-reads = subst (λ s. Reads s b) (sym (write-stands .0)) (form-promise .readAgain b (length page) n answered)
+
+    -- and a call of `check` on them answers what checking the submission does, and refuses with no number below 3
+    module _ (sheet sheet′ : List ℕ) (v : Verdict) (bytes : Bytes (take n page′)) (checked : Checked (take n page′) sheet v sheet′) where
+      pub written-verdict : verdictAnswer v ≡ checkAnswer (submissionOf b) (length sheet)
+      written-verdict = checked .answer ∙ ap (λ s. checkAnswer s (length sheet)) (write-stands .0)
+
+      pub written-passes : (m p : ℕ) → v ≡ Refused m p → 3 ≤ m
+      written-passes m p e =
+          from-3 (take n page′) (length sheet) m p (write-reads .passes) (refuses-held (checkRows (take n page′) (length sheet)) m p (call-refuses (take n page′) sheet sheet′ v bytes checked m p .0 e))
+
+-- ---- a call of `write` on the bodies of a well-formed submission, with page enough
+pub write-again : (s page page′ : List ℕ) (r : AnswerGiven) → Bytes s → WellFormed s → length s ≤ length page → Written (bodiesOf s) page r page′ → (r ≡ given.Done (length s)) × (take (length s) page′ ≡ s)
+write-again s page page′ r bytes w l call =
+    let first-two : Clear (rows1and2 s) = (w .read .0, (w .read .1 .0, tt)) in
+    let done-is = returned r (given.Done (length s)) (call .answer) .1 (form-promise .notRefused s bytes first-two (length page) l) in
+    (done-is, write-stands (bodiesOf s) page page′ r call (length s) done-is .0 ∙ form-promise .writtenAgain s bytes first-two)

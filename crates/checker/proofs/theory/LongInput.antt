@@ -14,7 +14,7 @@ use borrow.Author.Tests.{ne-eqb}
 use Rattle.base.specs.Words.{byte, Bytes}
 use Rattle.base.proofs.BoolLaws.{or-right}
 use Rattle.base.specs.Answer.{refused}
-use Rattle.submission.specs.Record.{letter, start}
+use Rattle.submission.specs.Record.{letter, startOf, start}
 use Rattle.base.specs.Computed.{any}
 use Rattle.text.specs.Text.{answerText, refusedText}
 use Rattle.submission.specs.Computed.{badContents, checks1to4, checks1to5}
@@ -23,7 +23,7 @@ use Rattle.conditions.specs.Computed.{checks1to10, checkAnswer}
 
 -- the bodies end at byte 3,076 at the latest
 end-small : (s : List ℕ) → Bytes s → start s 4 ≤ 3076
-unfolding start
+unfolding startOf
 end-small s b = let t = b 1 in let k = b 5 in let d = b 9 in let v = b 13 in omega arith
 
 long-contents : (s : List ℕ) → Bytes s → 3076 < length s → badContents s ≡ true

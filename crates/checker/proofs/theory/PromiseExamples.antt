@@ -13,7 +13,7 @@ use Rattle.base.specs.Words.{first, firstFrom, grow, Bytes}
 use Rattle.term.specs.Computed.{isPart}
 use Rattle.term.specs.Term.{decoded}
 use Rattle.base.specs.Answer.{done, pageAfter}
-use Rattle.submission.specs.Record.{start, term, recordAt}
+use Rattle.submission.specs.Record.{startOf, term, recordAt}
 use Rattle.term.specs.Number.{shapeOf}
 use Rattle.program.specs.Program.{programLength, bytesOf}
 use Rattle.submission.specs.Computed.{isKnownPart, isFresh}
@@ -60,7 +60,7 @@ shown e n name g a l t page f =
 
 -- one example for each way
 pub examples-shown : Shown m3 3 60000 × Shown m1 1 3 × Shown m8 1 9
-unfolding areBytes isWrongGuess isFresh isKnownPart isPart any first firstFrom grow decoded start shapeOf recordAt term guessed Dec·and ℕ-discrete
+unfolding areBytes isWrongGuess isFresh isKnownPart isPart any first firstFrom grow decoded startOf shapeOf recordAt term guessed Dec·and ℕ-discrete
 examples-shown = (
   shown m3 3 60000 (example-right 2 (lit< tt)) refl (lit≤ tt) refl,
   shown m1 1 3 (example-right 0 (lit< tt)) refl (lit≤ tt) refl,

@@ -1,12 +1,12 @@
--- Demand 1: each call answers as the rows of the table of verdicts and their order say; and a refusal keeps the page's bytes.
-use mathlib.Core.Path.{_≡_, sym, ap}
+-- Checking answers as the rows of the table of verdicts and their order say.
+use mathlib.Core.Path.{_≡_, sym}
 use mathlib.Core.Logic.{_↔_}
 use mathlib.Core.Bool.{not}
 use mathlib.Core.List.{List, [], _∷_}
 use Prim.Native.Nat.{ℕ, _<_}
-use lib.{Dec.ltb, ListN.length}
+use lib.Dec.{ltb}
 use Rattle.base.specs.Words.{Bytes, first}
-use Rattle.base.specs.Answer.{Answer, refused, pageAfter, numbered, Clear, Answers}
+use Rattle.base.specs.Answer.{Answer, numbered, Clear, Answers}
 use Rattle.base.specs.Computed.{failsIf, failsAt, andThen}
 use Rattle.base.proofs.Says.{says-ltb, says-not}
 use Rattle.base.proofs.RefusalLaws.{Tells, passes-iff, tells-if, tells-at, tells-then, answers-iff}
@@ -15,14 +15,11 @@ use Rattle.submission.specs.{Record.steps, Record.verifying, Record.wayAt, Reco
 use Rattle.submission.proofs.theory.{ListedTerms.Claimed, ReadingRows.tells-1-to-5, ReadingRows.claimed-clear}
 use Rattle.derivation.specs.{Computed.checkSteps, Step.Premise, Step.StepFits, Step.rows6and7}
 use Rattle.derivation.proofs.theory.StepMeaning.{fits-iff, steps-pass, tells-6-and-7}
-use Rattle.deduction.proofs.theory.DeducibleAnswer.{deducible-exact}
-use Rattle.program.specs.Program.{bytesOf, programLength}
-use Rattle.machine.proofs.theory.RunAnswer.{run-exact}
+use Rattle.program.specs.Program.{programLength}
 use Rattle.conditions.specs.Computed.{reachable, hasSecondWay, undone, checks8to10, checks1to10, checkAnswer}
-use Rattle.conditions.specs.{Condition.SecondWay, Condition.Undone, Condition.checkRows, Calls.program, Demand.Demand1}
+use Rattle.conditions.specs.{Condition.SecondWay, Condition.Undone, Condition.checkRows}
 use Rattle.conditions.proofs.theory.ConditionsMeant.{says-reachable, second-way-iff, says-undone}
 
--- ---- checking
 -- where neither row 6 nor row 7 holds, every step is right
 pub all-fit : (s : List ℕ) (c : Claimed s) → Clear (rows6and7 s ∷ []) → (i : ℕ) → i < steps s → StepFits s i
 all-fit s c k i l = fits-iff (c .read) i .0 (steps-pass s .0 (passes-iff (tells-6-and-7 c) .1 k) i l .0)
@@ -49,11 +46,3 @@ module _ (s : List ℕ) (b : Bytes s) where
 pub check-exact : (s : List ℕ) → Bytes s → (room : ℕ) (a : Answer) → (checkAnswer s room ≡ a) ↔ Answers (checkRows s room) (λ n. n ≡ steps s) a
 unfolding checkAnswer
 check-exact s b room = answers-iff (tells-check s b room) (steps s) (λ n. n ≡ steps s) (λ _ n. (sym, sym))
-
--- ---- Demand 1
-pub demand-1 : Demand1
-demand-1 = record { check = check-exact; deducible = deducible-exact; run = run-exact }
-
--- "Every refusal carries number and place, and the page keeps its bytes."
-pub refused-page : (s page : List ℕ) (number place : ℕ) → checkAnswer s (length page) ≡ refused number place → pageAfter (checkAnswer s (length page)) (bytesOf (program s)) page ≡ page
-refused-page s page number place e = ap (λ a. pageAfter a (bytesOf (program s)) page) e

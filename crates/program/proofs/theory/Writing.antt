@@ -8,6 +8,7 @@ use lib.ListN.{length, set, drop}
 use lib.Seq.{sets, length-sets}
 use borrow.Rule.Slice.PartMut.{midOf, putMid}
 use Rattle.base.specs.Words.{grow, listed}
+use Rattle.base.specs.Answer.{Puts}
 use Rattle.base.proofs.Grow.{length-listed}
 use Rattle.base.proofs.Overwrite.{overwrite}
 use Rattle.base.proofs.Parts.{rest-lent, rest-back}
@@ -17,8 +18,8 @@ use Rattle.program.specs.Code.{heldAt, programIn, testIn}
 use Rattle.program.proofs.theory.Bytes.{bytes-length, bytes-append}
 
 -- three stores in a row
-pub put-three : (l : List ℕ) {l₁ l₂ l₃ : List ℕ} (i a b c : ℕ) → l₁ ≡ set l i a → l₂ ≡ set l₁ (i + 1) b → l₃ ≡ set l₂ (i + 2) c → l₃ ≡ sets l i (a ∷ b ∷ c ∷ [])
-put-three l i a b c e f g = g ∙ rw (f, e, add-one i, add-two i)
+pub put-three : (l : List ℕ) {l₁ l₂ l₃ : List ℕ} (i a b c : ℕ) {j₁ j₂ j₃ : ℕ} → Puts l i (a ∷ []) l₁ j₁ → Puts l₁ (i + 1) (b ∷ []) l₂ j₂ → Puts l₂ (i + 2) (c ∷ []) l₃ j₃ → l₃ ≡ sets l i (a ∷ b ∷ c ∷ [])
+put-three l i a b c e f g = g .stored ∙ rw (f .stored, e .stored, add-one i, add-two i)
 
 abbrev three : Instruction → List ℕ
 three x = x .rule ∷ x .left ∷ x .right ∷ []

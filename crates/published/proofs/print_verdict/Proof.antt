@@ -1,4 +1,4 @@
-use Rattle.text.proofs.theory.PutLaws.{puts-taken}
+use Rattle.base.proofs.PutLaws.{puts-taken}
 use borrow.Author.Needs.{needs}
 use Rattle.published.proofs.print_verdict.Statement.{statement}
 use Rattle.published.proofs.print_verdict.Tie as tie

@@ -1,78 +1,49 @@
--- `check_counts` meets its contract: the counts before i are within their limits.
-use Prim.Native.Nat.{_-_}
-use Rattle.base.proofs.Scan.{scan}
-use Rattle.base.proofs.First.{Passed}
-use Rattle.submission.specs.Computed.{badCount}
-use Rattle.submission.proofs.ContentsTests.{too-few, too-many, within}
-use Rattle.base.proofs.StageLaws.{fails-hit, passes-all}
+use Rattle.submission.proofs.ContentsTests.{counts-read}
+use borrow.Author.Needs.{needs}
 use Rattle.submission.proofs.check_counts.Statement.{statement}
 use Rattle.submission.proofs.check_counts.Tie as tie
 
-abbrev Inv-loop : tie.InvT-loop
-Inv-loop s least most i₀ i = Passed (badCount s) 4 i
+byte-requires : tie.Need-byte-requires
+byte-requires c κs = search needs
 
-abbrev μ-loop : tie.MeasureT-loop
-μ-loop s least most i₀ i = 4 - i
+wide-requires : tie.Need-wide-requires
+wide-requires c κs = search needs
 
-loop-holds : tie.Need-loop-holds Inv-loop μ-loop
-loop-holds c = search scan
+byte-requires-2 : tie.Need-byte-requires-2
+byte-requires-2 c κs = search needs
 
-mul-byte : tie.Need-mul-byte Inv-loop μ-loop
-mul-byte c = search scan
+wide-requires-2 : tie.Need-wide-requires-2
+wide-requires-2 c κs = search needs
 
-add-byte : tie.Need-add-byte Inv-loop μ-loop
-add-byte c = search scan
+byte-requires-3 : tie.Need-byte-requires-3
+byte-requires-3 c κs = search needs
 
-byte-requires : tie.Need-byte-requires Inv-loop μ-loop
-byte-requires c κs = search scan
+wide-requires-3 : tie.Need-wide-requires-3
+wide-requires-3 c κs = search needs
 
-array-read-if1 : tie.Need-array-read-if1 Inv-loop μ-loop
-array-read-if1 c = search scan
+byte-requires-4 : tie.Need-byte-requires-4
+byte-requires-4 c κs = search needs
 
-cast-t12 : tie.Need-cast-t12 Inv-loop μ-loop
-cast-t12 c = search scan
+wide-requires-4 : tie.Need-wide-requires-4
+wide-requires-4 c κs = search needs
 
-returns : tie.Need-returns Inv-loop μ-loop
-returns c = search (fails-hit, too-few, scan)
+check-limits-requires : tie.Need-check-limits-requires
+check-limits-requires c κs = search needs
 
-array-read-if2 : tie.Need-array-read-if2 Inv-loop μ-loop
-array-read-if2 c = search scan
-
-cast-t15 : tie.Need-cast-t15 Inv-loop μ-loop
-cast-t15 c = search scan
-
-returns-2 : tie.Need-returns-2 Inv-loop μ-loop
-returns-2 c = search (fails-hit, too-many, scan)
-
-add-i : tie.Need-add-i Inv-loop μ-loop
-add-i c = search scan
-
-loop-less : tie.Need-loop-less Inv-loop μ-loop
-loop-less c = search scan
-
-loop-again : tie.Need-loop-again Inv-loop μ-loop
-loop-again c = search (within, scan)
-
-returns-3 : tie.Need-returns-3 Inv-loop μ-loop
-returns-3 c = search (passes-all, scan)
+returns : tie.Need-returns
+returns c = search (counts-read, needs)
 
 pub check-counts-spec : {M : Type 1} → statement M
 check-counts-spec =
     tie.close
     (tie.spec
-    Inv-loop
-    μ-loop
-    loop-holds
-    mul-byte
-    add-byte
     byte-requires
-    array-read-if1
-    cast-t12
-    returns
-    array-read-if2
-    cast-t15
-    returns-2
-    add-i
-    loop-less
-    loop-again
-    returns-3)
+    wide-requires
+    byte-requires-2
+    wide-requires-2
+    byte-requires-3
+    wide-requires-3
+    byte-requires-4
+    wide-requires-4
+    check-limits-requires
+    returns)

@@ -1,7 +1,10 @@
-use Rattle.submission.specs.Record.{start}
+use Rattle.submission.specs.Record.{startOf}
 use borrow.Author.Needs.{needs}
 use Rattle.submission.proofs.derivation_start.Statement.{statement}
 use Rattle.submission.proofs.derivation_start.Tie as tie
+
+knowledge-start-requires : tie.Need-knowledge-start-requires
+knowledge-start-requires c κs = search needs
 
 byte-requires : tie.Need-byte-requires
 byte-requires c κs = search needs
@@ -15,28 +18,11 @@ mul-result c = search needs
 add-result : tie.Need-add-result
 add-result c = search needs
 
-byte-requires-2 : tie.Need-byte-requires-2
-byte-requires-2 c κs = search needs
-
-wide-requires-2 : tie.Need-wide-requires-2
-wide-requires-2 c κs = search needs
-
-add-result-2 : tie.Need-add-result-2
-add-result-2 c = search needs
-
 returns : tie.Need-returns
-unfolding start
+unfolding startOf
 returns c = search needs
 
 pub derivation-start-spec : {M : Type 1} → statement M
 derivation-start-spec =
     tie.close
-    (tie.spec
-    byte-requires
-    wide-requires
-    mul-result
-    add-result
-    byte-requires-2
-    wide-requires-2
-    add-result-2
-    returns)
+    (tie.spec knowledge-start-requires byte-requires wide-requires mul-result add-result returns)

@@ -1,4 +1,4 @@
-use Rattle.submission.specs.Record.{start}
+use Rattle.submission.specs.Record.{startOf}
 use borrow.Author.Needs.{needs}
 use Rattle.submission.proofs.knowledge_start.Statement.{statement}
 use Rattle.submission.proofs.knowledge_start.Tie as tie
@@ -16,7 +16,7 @@ add-result : tie.Need-add-result
 add-result c = search needs
 
 returns : tie.Need-returns
-unfolding start
+unfolding startOf
 returns c = search needs
 
 pub knowledge-start-spec : {M : Type 1} → statement M

@@ -1,4 +1,4 @@
-use Rattle.submission.specs.Record.{start}
+use Rattle.submission.specs.Record.{startOf}
 use borrow.Author.Needs.{needs}
 use Rattle.submission.proofs.term_at.Statement.{statement}
 use Rattle.submission.proofs.term_at.Tie as tie
@@ -28,7 +28,7 @@ byte-requires-3 : tie.Need-byte-requires-3
 byte-requires-3 c κs = search needs
 
 returns : tie.Need-returns
-unfolding start
+unfolding startOf
 returns c = record { kind = cc; x = cc; y = cc }
 
 pub term-at-spec : {M : Type 1} → statement M

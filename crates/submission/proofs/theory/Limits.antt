@@ -2,21 +2,18 @@
 use mathlib.Core.Path.{_≡_, refl}
 use mathlib.Core.List.{List, [], _∷_, map}
 use Prim.Native.Nat.{ℕ}
+use lib.ListN.{getD}
 use Rattle.base.specs.Words.{first, firstFrom}
-use Rattle.base.specs.Computed.{Check, passes, fails, failsAt}
-use Rattle.submission.specs.Computed.{badCount}
+use Rattle.base.specs.Computed.{Check, passes, fails}
+use Rattle.submission.specs.Computed.{checkLimits}
 
--- the four counts, in the contents' places, and what check 2 says
+-- four counts, and what check 2 says
 pub record Limit : Type 0 where
   pub counts : List ℕ
   pub wanted : Check
 
--- contents whose entries have these counts
-abbrev entry : ℕ → List ℕ → List ℕ
-entry c rest = 0 ∷ c ∷ 0 ∷ 0 ∷ rest
-
 abbrev limit : ℕ → ℕ → ℕ → ℕ → Check → Limit
-limit t k d v w = record { counts = entry t (entry k (entry d (entry v []))); wanted = w }
+limit t k d v w = record { counts = t ∷ k ∷ d ∷ v ∷ []; wanted = w }
 
 abbrev pub limits : List Limit
 limits =
@@ -30,6 +27,6 @@ limits =
     ∷ limit 250 64 128 2 (fails 2 3)
     ∷ []
 
-pub limits-right : map (λ l. failsAt 2 (first (badCount (l .counts)) 4)) limits ≡ map (λ l. l .wanted) limits
+pub limits-right : map (λ l. checkLimits (λ i. getD (l .counts) i 0)) limits ≡ map (λ l. l .wanted) limits
 unfolding first firstFrom
 limits-right = refl

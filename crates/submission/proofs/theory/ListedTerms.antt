@@ -19,7 +19,7 @@ use Rattle.base.specs.Words.{Bytes, first}
 use Rattle.term.proofs.Table.{decode-inj, decoded-reads}
 use Rattle.term.specs.Computed.{isAtomic}
 use Rattle.base.specs.Computed.{passes, failsIf, failsAt}
-use Rattle.submission.specs.{Record.terms, Record.entries, Record.steps, Record.kindAt, Record.xAt, Record.yAt, Record.nameAt, Record.entryAt, Record.guess, Record.verifying, Record.wayAt, Record.companion, Record.recordOf, Record.recordAt, Record.term, Computed.areInverse}
+use Rattle.submission.specs.{Record.count, Record.terms, Record.entries, Record.steps, Record.kindAt, Record.xAt, Record.yAt, Record.nameAt, Record.entryAt, Record.guess, Record.verifying, Record.wayAt, Record.companion, Record.recordOf, Record.recordAt, Record.term, Computed.areInverse}
 use Rattle.submission.specs.Check.{HasSecond, Shaped, ClaimFits, Way, another-step, at-start, inverse-key, wayOf, Range, step-number, term-number, zero-only, row, InRange}
 use Rattle.submission.specs.Computed.{badCount, badContents, inRange, claimFits, badTerm, badKnowledge, goodClaim, checks1to4, checks1to5}
 use Rattle.base.proofs.AnswerLaws.{if-passes, at-passes, then-passes}
@@ -168,11 +168,11 @@ within a b c e = let u = or-false _ _ .0 e in (ltb-false b a (u .0), ltb-false c
 
 -- what checks 2 to 4 say of every entry, record and term number, where they pass
 pub pass-2-to-4 : (s : List ℕ) → checks1to4 s ≡ passes →
-    ((i : ℕ) → i < 4 → badCount s i ≡ false) × ((i : ℕ) → i < terms s → badTerm s i ≡ false) × ((i : ℕ) → i < entries s → badKnowledge s i ≡ false)
+    ((i : ℕ) → i < 4 → badCount (count s) i ≡ false) × ((i : ℕ) → i < terms s → badTerm s i ≡ false) × ((i : ℕ) → i < entries s → badKnowledge s i ≡ false)
 unfolding checks1to4
 pass-2-to-4 s e =
     let (e1, r) = then-passes (failsIf (badContents s) 1 0) _ .0 e in
-    let (e2, r) = then-passes (failsAt 2 (first (badCount s) 4)) _ .0 r in
+    let (e2, r) = then-passes (failsAt 2 (first (badCount (count s)) 4)) _ .0 r in
     let (e3, e4) = then-passes (failsAt 3 (first (badTerm s) (terms s))) (failsAt 4 (first (badKnowledge s) (entries s))) .0 r in
     (none-fails _ _ .0 (at-passes 2 _ .0 e2), none-fails _ _ .0 (at-passes 3 _ .0 e3), none-fails _ _ .0 (at-passes 4 _ .0 e4))
 

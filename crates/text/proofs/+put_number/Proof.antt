@@ -8,7 +8,7 @@ use Rattle.text.proofs.put_number.Reads as put-number
 use Rattle.text.proofs.put_number.Kinds as put-number-kinds
 use Rattle.text.proofs.+put_number.Lts-put_number as put-number-lts
 use Rattle.text.proofs.digit.Reads as digit-reads
-use Rattle.text.proofs.put.Reads as put-reads
+use Rattle.base.proofs.put.Reads as put-reads
 use Rattle.text.proofs.+put_number.{statement}
 use Rattle.text.proofs.+put_number.Tie.{close}
 

@@ -10,11 +10,11 @@ instruction-at-requires c κs = search needs
 put-register-requires : tie.Need-put-register-requires
 put-register-requires c κs = search needs
 
-slice-aggregate-put-word : tie.Need-slice-aggregate-put-word
-slice-aggregate-put-word c = search needs
+slice-aggregate-put-bytes : tie.Need-slice-aggregate-put-bytes
+slice-aggregate-put-bytes c = search needs
 
-put-word-requires : tie.Need-put-word-requires
-put-word-requires c κs = search needs
+put-bytes-requires : tie.Need-put-bytes-requires
+put-bytes-requires c κs = search needs
 
 put-rule-requires : tie.Need-put-rule-requires
 put-rule-requires c κs = search needs
@@ -47,7 +47,7 @@ returns c =
     let equals = ruled .before .before .before .before in
     let target = equals .before .before .before .before .before in
     let read = target .before .before in
-    step-put _ (read .instruction-at .ensures) (target .put-register .ensures) (equals .put-word .ensures) (ruled .put-rule .ensures) (spaced .put .ensures) (first .before .wide16 .ensures) (first .put-register2 .ensures) (second .put-second .ensures) (ended .put2 .ensures)
+    step-put _ (read .instruction-at .ensures) (target .put-register .ensures) (equals .put-bytes .ensures) (ruled .put-rule .ensures) (spaced .put .ensures) (first .before .wide16 .ensures) (first .put-register2 .ensures) (second .put-second .ensures) (ended .put2 .ensures)
 
 pub put-step-spec : {M : Type 1} → statement M
 put-step-spec =
@@ -55,8 +55,8 @@ put-step-spec =
     (tie.spec
     instruction-at-requires
     put-register-requires
-    slice-aggregate-put-word
-    put-word-requires
+    slice-aggregate-put-bytes
+    put-bytes-requires
     put-rule-requires
     put-requires
     wide16-requires

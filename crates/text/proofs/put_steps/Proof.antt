@@ -2,8 +2,9 @@
 use Rattle.text.proofs.LineReturns.{steps-none, steps-more, steps-all}
 use borrow.Author.Needs.{needs}
 use Prim.Native.Nat.{_≤_, _-_}
-use Rattle.text.specs.Text.{stepLines, Puts}
-use Rattle.text.proofs.theory.PutLaws.{puts-length}
+use Rattle.text.specs.Text.{stepLines}
+use Rattle.base.specs.Answer.{Puts}
+use Rattle.base.proofs.PutLaws.{puts-length}
 use Rattle.text.proofs.put_steps.Statement.{statement}
 use Rattle.text.proofs.put_steps.Tie as tie
 

@@ -7,11 +7,11 @@ use Rattle.text.proofs.put_test.Tie as tie
 test-at-requires : tie.Need-test-at-requires
 test-at-requires c κs = search needs
 
-slice-aggregate-put-word : tie.Need-slice-aggregate-put-word
-slice-aggregate-put-word c = search needs
+slice-aggregate-put-bytes : tie.Need-slice-aggregate-put-bytes
+slice-aggregate-put-bytes c = search needs
 
-put-word-requires : tie.Need-put-word-requires
-put-word-requires c κs = search needs
+put-bytes-requires : tie.Need-put-bytes-requires
+put-bytes-requires c κs = search needs
 
 wide16-requires : tie.Need-wide16-requires
 wide16-requires c κs = search needs
@@ -50,15 +50,15 @@ returns c =
     let first = space1 .before .before .before .before in
     let signal = first .before .before .before .before .before in
     let read = signal .before .before .before in
-    test-put (read .test-at .ensures) (signal .put-word .ensures) (first .before .wide16 .ensures) (first .put-register .ensures) (space1 .put .ensures) (related .put-relation .ensures) (space2 .put2 .ensures) (second .before .wide162 .ensures) (second .put-register2 .ensures) (ended .put3 .ensures)
+    test-put (read .test-at .ensures) (signal .put-bytes .ensures) (first .before .wide16 .ensures) (first .put-register .ensures) (space1 .put .ensures) (related .put-relation .ensures) (space2 .put2 .ensures) (second .before .wide162 .ensures) (second .put-register2 .ensures) (ended .put3 .ensures)
 
 pub put-test-spec : {M : Type 1} → statement M
 put-test-spec =
     tie.close
     (tie.spec
     test-at-requires
-    slice-aggregate-put-word
-    put-word-requires
+    slice-aggregate-put-bytes
+    put-bytes-requires
     wide16-requires
     put-register-requires
     put-requires

@@ -15,8 +15,9 @@ use Rattle.base.specs.Answer.{done}
 use Rattle.base.specs.Words.{byte, Bytes}
 use Rattle.term.specs.Term.{Relation, equal, inverses}
 use Rattle.program.specs.Program.{relationOf, relationWord, Instruction, instructionAt, testAt}
-use Rattle.text.specs.Text.{digits, registerText, secondText, stepLine, stepLines, testLine, refusedText, answerText, Puts}
-use Rattle.text.proofs.theory.PutLaws.{puts-whole}
+use Rattle.text.specs.Text.{digits, registerText, secondText, stepLine, stepLines, testLine, refusedText, answerText}
+use Rattle.base.specs.Answer.{Puts}
+use Rattle.base.proofs.PutLaws.{puts-whole}
 use Rattle.text.proofs.theory.Decimal.{digits-one, digits-more}
 
 -- a number below ten to the k has at most k digits

@@ -4,11 +4,11 @@ use borrow.Author.Needs.{needs}
 use Rattle.text.proofs.write_accepted.Statement.{statement}
 use Rattle.text.proofs.write_accepted.Tie as tie
 
-slice-aggregate-put-word : tie.Need-slice-aggregate-put-word
-slice-aggregate-put-word c = search needs
+slice-aggregate-put-bytes : tie.Need-slice-aggregate-put-bytes
+slice-aggregate-put-bytes c = search needs
 
-put-word-requires : tie.Need-put-word-requires
-put-word-requires c κs = search needs
+put-bytes-requires : tie.Need-put-bytes-requires
+put-bytes-requires c κs = search needs
 
 wide16-requires : tie.Need-wide16-requires
 wide16-requires c κs = search needs
@@ -41,14 +41,14 @@ returns c =
     let ended = stepped .before .before .before .before .before in
     let counted = ended .before .before .before .before in
     let word = counted .before .before .before .before .before in
-    accepted-put _ _ _ (word .put-word .ensures) (counted .before .wide16 .ensures) (counted .put-number .ensures) (ended .put .ensures) (stepped .before .wide162 .ensures) (stepped .put-steps .ensures) (tested .put-test .ensures)
+    accepted-put _ _ _ (word .put-bytes .ensures) (counted .before .wide16 .ensures) (counted .put-number .ensures) (ended .put .ensures) (stepped .before .wide162 .ensures) (stepped .put-steps .ensures) (tested .put-test .ensures)
 
 pub write-accepted-spec : {M : Type 1} → statement M
 write-accepted-spec =
     tie.close
     (tie.spec
-    slice-aggregate-put-word
-    put-word-requires
+    slice-aggregate-put-bytes
+    put-bytes-requires
     wide16-requires
     put-number-requires
     put-requires

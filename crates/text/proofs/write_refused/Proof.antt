@@ -4,11 +4,11 @@ use borrow.Author.Needs.{needs}
 use Rattle.text.proofs.write_refused.Statement.{statement}
 use Rattle.text.proofs.write_refused.Tie as tie
 
-slice-aggregate-put-word : tie.Need-slice-aggregate-put-word
-slice-aggregate-put-word c = search needs
+slice-aggregate-put-bytes : tie.Need-slice-aggregate-put-bytes
+slice-aggregate-put-bytes c = search needs
 
-put-word-requires : tie.Need-put-word-requires
-put-word-requires c κs = search needs
+put-bytes-requires : tie.Need-put-bytes-requires
+put-bytes-requires c κs = search needs
 
 wide16-requires : tie.Need-wide16-requires
 wide16-requires c κs = search needs
@@ -35,14 +35,14 @@ returns c =
     let spaced = placed .before .before .before .before in
     let numbered = spaced .before .before .before .before in
     let word = numbered .before .before .before .before .before in
-    refused-put _ _ (word .put-word .ensures) (numbered .before .wide16 .ensures) (numbered .put-number .ensures) (spaced .put .ensures) (placed .put-number2 .ensures) (ended .put2 .ensures)
+    refused-put _ _ (word .put-bytes .ensures) (numbered .before .wide16 .ensures) (numbered .put-number .ensures) (spaced .put .ensures) (placed .put-number2 .ensures) (ended .put2 .ensures)
 
 pub write-refused-spec : {M : Type 1} → statement M
 write-refused-spec =
     tie.close
     (tie.spec
-    slice-aggregate-put-word
-    put-word-requires
+    slice-aggregate-put-bytes
+    put-bytes-requires
     wide16-requires
     put-number-requires
     put-requires

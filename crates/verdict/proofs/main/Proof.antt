@@ -1,4 +1,4 @@
-use Rattle.text.proofs.theory.PutLaws.{puts-taken}
+use Rattle.base.proofs.PutLaws.{puts-taken}
 use Rattle.verdict.proofs.InputLaws.{read-most, read-taken}
 use borrow.Author.Needs.{needs}
 use Rattle.verdict.proofs.main.Statement.{statement}

@@ -8,8 +8,8 @@ use native.Mathlib.Numerals.{add-one}
 use native.Mathlib.Omega.{arith}
 use lib.ListN.{length, getD, set, take, drop, length-append, take-append-drop, drop-of-length-le}
 use lib.Seq.{sets, sets-eq, length-sets, set-out, take-append-seam, take-suc, take-all, length-take-le}
 use Rattle.base.proofs.Order.{lt-or-ge}
-use Rattle.text.specs.Text.{Puts}
+use Rattle.base.specs.Answer.{Puts}
 
 -- past the end nothing is stored
 sets-past : (l : List ℕ) (i : ℕ) (vs : List ℕ) → length l ≤ i → sets l i vs ≡ l
@@ -21,13 +21,13 @@ sets-append l i [] ys = rw add-zero
 sets-append l i (x ∷ xs) ys = rw (add-suc, ← suc-add) (sets-append (set l i x) (suc i) xs ys)
 
 pub puts-length : {a b text : List ℕ} {i j : ℕ} → Puts a i text b j → length b ≡ length a
-puts-length {a} {b} {text} {i} p = rw (p .bytes) (length-sets a i text)
+puts-length {a} {b} {text} {i} p = rw (p .stored) (length-sets a i text)
 
 pub puts-none : {a : List ℕ} {i : ℕ} → Puts a i [] a i
-puts-none = record { bytes = refl; place = omega arith }
+puts-none = record { stored = refl; place = omega arith }
 
 pub puts-full : (a : List ℕ) (i b : ℕ) → length a ≤ i → Puts a i (b ∷ []) a i
-puts-full a i b h = record { bytes = sym (sets-past a i (b ∷ []) h); place = omega arith }
+puts-full a i b h = record { stored = sym (sets-past a i (b ∷ []) h); place = omega arith }
 
 pub puts-then : {a b c xs ys : List ℕ} {i j k : ℕ} → Puts a i xs b j → Puts b j ys c k → Puts a i (xs ++ ys) c k
 puts-then {a} {b} {c} {xs} {ys} {i} {j} {k} p q =
@@ -35,8 +35,8 @@ puts-then {a} {b} {c} {xs} {ys} {i} {j} {k} p q =
     let m : length (xs ++ ys) ≡ length xs + length ys = length-append xs ys in
     let n : length (sets a i xs) ≡ length a = length-sets a i xs in
     record {
-      bytes =
-          rw (q .bytes, p .bytes, sets-append)
+      stored =
+          rw (q .stored, p .stored, sets-append)
           (⊎-elim
           (λ (h : j < length a). let f : j ≡ i + length xs = omega arith in rw f)
           (λ (h : length a ≤ j). rw (sets-past (sets a i xs) j ys (omega arith), sets-past (sets a i xs) (i + length xs) ys (omega arith)))
@@ -47,7 +47,7 @@ puts-then {a} {b} {c} {xs} {ys} {i} {j} {k} p q =
 -- a text put at the front, in a buffer of any length: what there is room for, and then the buffer's own rest
 pub puts-front : {a b text : List ℕ} {k : ℕ} → Puts a 0 text b k → b ≡ take (length a) text ++ drop (length text) a
 puts-front {a} {b} {text} p =
-    p .bytes ∙ ⊎-elim
+    p .stored ∙ ⊎-elim
     (λ (h : length a < length text).
     let t = take (length a) text in
     let n : length t ≡ length a = length-take-le (length a) text (omega arith) in

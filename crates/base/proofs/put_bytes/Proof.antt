@@ -2,10 +2,10 @@
 use borrow.Author.Needs.{needs}
 use Prim.Native.Nat.{_-_}
 use lib.ListN.{length, take}
-use Rattle.text.specs.Text.{Puts}
-use Rattle.text.proofs.theory.PutLaws.{puts-none, word-more, word-all, puts-length}
-use Rattle.text.proofs.put_word.Statement.{statement}
-use Rattle.text.proofs.put_word.Tie as tie
+use Rattle.base.specs.Answer.{Puts}
+use Rattle.base.proofs.PutLaws.{puts-none, word-more, word-all, puts-length}
+use Rattle.base.proofs.put_bytes.Statement.{statement}
+use Rattle.base.proofs.put_bytes.Tie as tie
 
 abbrev Inv-loop : tie.InvT-loop
 Inv-loop out₀ from word at₀ i₀ out at i = Puts out₀ from (take i word) out at
@@ -37,8 +37,8 @@ same-length c = search (puts-length, needs)
 returns : tie.Need-returns Inv-loop μ-loop
 returns c = search (word-all, needs)
 
-pub put-word-spec : {M : Type 1} → statement M
-put-word-spec =
+pub put-bytes-spec : {M : Type 1} → statement M
+put-bytes-spec =
     tie.close
     (tie.spec
     Inv-loop

@@ -1,8 +1,8 @@
 -- One byte, or none where the buffer is full.
-use Rattle.text.proofs.theory.PutLaws.{puts-full}
+use Rattle.base.proofs.PutLaws.{puts-full}
 use borrow.Author.Needs.{needs}
-use Rattle.text.proofs.put.Statement.{statement}
-use Rattle.text.proofs.put.Tie as tie
+use Rattle.base.proofs.put.Statement.{statement}
+use Rattle.base.proofs.put.Tie as tie
 
 slice-write-out : tie.Need-slice-write-out
 slice-write-out c = search needs

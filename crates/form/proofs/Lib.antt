@@ -1,0 +1,2 @@
+pub mod WriteReturns
+pub mod theory
