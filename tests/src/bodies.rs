@@ -1,6 +1,8 @@
-//! The four bodies of a submission as records.
+//! The four bodies of a submission as records, for the generator and the notation.
 
-use crate::reference::{contents, records, Checked};
+use crate::reference::contents::{self, BodyBytes};
+use crate::reference::{records, Checked};
+use crate::tables::{Body, CONTENTS_SIZE};
 
 #[derive(Clone, Default, PartialEq, Eq, Debug)]
 pub struct Bodies {
@@ -25,12 +27,25 @@ impl Bodies {
         })
     }
 
-    pub fn submission(&self) -> Vec<u8> {
-        contents::submission([
-            self.terms.as_flattened(),
-            &self.knowledge,
-            self.derivation.as_flattened(),
-            &self.claim,
-        ])
+    pub fn bytes(&self) -> BodyBytes<'_> {
+        [self.terms.as_flattened(), &self.knowledge, self.derivation.as_flattened(), &self.claim]
     }
+
+    pub fn submission(&self) -> Vec<u8> {
+        submission(self.bytes())
+    }
+}
+
+/// The submission with these bodies: contents first. Unlike the reference's `write` it looks at no
+/// limit, so that samples can break them. The counts are the numbers of whole records.
+pub fn submission(bodies: BodyBytes) -> Vec<u8> {
+    let mut contents = Vec::new();
+    let mut start = CONTENTS_SIZE;
+    for (body, bytes) in Body::ALL.into_iter().zip(bodies) {
+        let count = u8::try_from(bytes.len() / body.record()).expect("at most 255 records");
+        let [high, low] = u16::try_from(start).expect("a start of 16 bits").to_be_bytes();
+        contents.extend([body.letter(), count, high, low]);
+        start += bytes.len();
+    }
+    [contents, bodies.concat()].concat()
 }

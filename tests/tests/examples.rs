@@ -3,7 +3,8 @@
 use checker_tests::bodies::Bodies;
 use checker_tests::examples::{file, names, submission};
 use checker_tests::notation::{assemble, show};
-use checker_tests::reference::verdict;
+use checker_tests::reference::{contents, verdict, write};
+use checker_tests::tables::LONGEST_SUBMISSION;
 
 fn text(name: &str, extension: &str) -> String {
     String::from_utf8(file(name, extension)).expect("a text")
@@ -13,6 +14,18 @@ fn text(name: &str, extension: &str) -> String {
 fn each_text_assembles_to_its_submission() {
     for name in names() {
         assert_eq!(assemble(&text(&name, "txt")), Ok(submission(&name)), "{name}");
+    }
+}
+
+/// The notation has a writer of its own.
+#[test]
+fn each_text_assembles_to_what_is_written_from_its_bodies() {
+    for name in names() {
+        let assembled = assemble(&text(&name, "txt")).expect("a text without a fault");
+        let bodies = contents::bodies(&assembled).expect("four bodies");
+        let mut page = [0; LONGEST_SUBMISSION];
+        let length = write(bodies, &mut page).expect("room for every submission");
+        assert_eq!(page[..usize::from(length)], assembled, "{name}");
     }
 }
 

@@ -1,8 +1,8 @@
 //! The reference on faults put into M1, one at a time: each has its number and place.
 
-use checker_tests::bodies::Bodies;
+use checker_tests::bodies::{self, Bodies};
 use checker_tests::examples::submission;
-use checker_tests::reference::{code, contents, deducible, run, verdict, REFUSAL};
+use checker_tests::reference::{code, deducible, run, verdict, REFUSAL};
 use checker_tests::tables::{program_length, unclaimed, Body, MOST_INSTRUCTIONS};
 
 /// The verdict on M1 with changed bytes.
@@ -48,7 +48,7 @@ fn counts() {
     ];
     for (counts, place) in counts {
         let bodies = Body::ALL.map(|body| vec![0; counts[body as usize] * body.record()]);
-        let bytes = contents::submission(bodies.each_ref().map(Vec::as_slice));
+        let bytes = bodies::submission(bodies.each_ref().map(Vec::as_slice));
         assert_eq!(verdict(&bytes), format!("refused 2 {place}\n"));
     }
 }

@@ -4,7 +4,7 @@ use std::collections::HashSet;
 use std::fmt::Debug;
 use std::hash::Hash;
 
-use checker_tests::tables::{unclaimed, Body, Kind, Reason, Rule, Test, Way};
+use checker_tests::tables::{unclaimed, Body, Call, Kind, Reason, Rule, Test, Way};
 
 fn assert_distinct<T: Eq + Hash + Debug>(column: impl IntoIterator<Item = T>) {
     let mut seen = HashSet::new();
@@ -27,6 +27,7 @@ fn a_row_has_its_own_number_letter_and_word() {
     assert_distinct(Test::ALL.map(Test::word));
     assert_distinct(Reason::ALL.map(Reason::number));
     assert_distinct(Reason::ALL.map(Reason::word));
+    assert_distinct(Call::ALL.map(Call::word));
 }
 
 #[test]
@@ -40,6 +41,9 @@ fn the_columns_agree() {
     }
     for (rule, taking) in Rule::takings() {
         assert!(taking.from.builds() && taking.part < taking.from.operands(), "{rule:?}");
+    }
+    for reason in Reason::ALL {
+        assert!(Call::ALL.iter().any(|call| call.refusals().contains(&reason)), "{reason:?}");
     }
 }
 

@@ -3,9 +3,9 @@
 
 use super::program::repeated;
 use super::shapes::{self, Nesting};
-use super::{right_name, Input};
+use super::{right_name, Form, Input};
 use crate::bodies::Bodies;
-use crate::tables::{Body, Rule, LONGEST_PROGRAM};
+use crate::tables::{Body, Rule, LONGEST_PROGRAM, LONGEST_SUBMISSION};
 
 /// The inputs, each with a title.
 pub fn deepest() -> Vec<(String, Input)> {
@@ -34,6 +34,7 @@ fn input(bodies: &Bodies) -> Input {
         runs: programs(bodies).into_iter().map(|program| (right, program)).collect(),
         right,
         names: vec![u16::MAX],
+        forms: vec![Form::new(bodies.bytes(), LONGEST_SUBMISSION)],
         submission,
     }
 }

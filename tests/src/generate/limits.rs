@@ -2,8 +2,7 @@
 
 use super::random::Random;
 use super::table::Table;
-use crate::bodies::Bodies;
-use crate::reference::contents;
+use crate::bodies::{submission, Bodies};
 use crate::tables::{Body, Kind};
 
 /// The bodies with fresh atoms, known ones among them, and repeated steps, up to these counts. An
@@ -45,5 +44,5 @@ pub fn wild_counts(random: &mut Random) -> Vec<u8> {
         let count = random.pick(&counts);
         random.bytes(count * body.record())
     });
-    contents::submission(bodies.each_ref().map(Vec::as_slice))
+    submission(bodies.each_ref().map(Vec::as_slice))
 }

@@ -1,8 +1,9 @@
-//! Submissions, pages and programs to compare the checker with the reference on. One seed gives
-//! one sequence of inputs.
+//! Submissions, pages, programs and forms to compare the checker with the reference on. One seed
+//! gives one sequence of inputs.
 
 mod damage;
 mod deepest;
+mod form;
 mod limits;
 mod program;
 mod protocol;
@@ -11,7 +12,7 @@ pub mod shapes;
 mod steps;
 mod table;
 
-use crate::bodies::Bodies;
+use crate::bodies::{self, Bodies};
 use crate::reference::{self, contents};
 use crate::tables::{program_length, Body, LONGEST_PROGRAM};
 use program::Registers;
@@ -20,6 +21,7 @@ use random::Random;
 use shapes::Order;
 
 pub use deepest::deepest;
+pub use form::Form;
 pub use limits::padded;
 pub use program::repeated;
 
@@ -36,6 +38,9 @@ pub struct Input {
     pub right: u16,
     /// Names that may be those of wrong guesses.
     pub names: Vec<u16>,
+    /// What to write: first the submission's own bodies, where it passes checks 1 and 2, on a page
+    /// that is long enough.
+    pub forms: Vec<Form>,
 }
 
 /// How many protocols are kept for changing them.
@@ -66,6 +71,7 @@ impl Source {
             asked: (0..4).map(|_| self.asked(&submission)).collect(),
             runs: self.runs(&submission, right),
             names: (0..4).map(|_| self.name(right)).collect(),
+            forms: self.forms(&submission),
             right,
             submission,
             page,
@@ -123,7 +129,7 @@ impl Source {
     fn noise(&mut self) -> Vec<u8> {
         if self.random.chance(50) {
             let bodies = Body::ALL.map(|body| self.random.bytes(body.record()));
-            return contents::submission(bodies.each_ref().map(Vec::as_slice));
+            return bodies::submission(bodies.each_ref().map(Vec::as_slice));
         }
         let length = self.random.below(40);
         self.random.bytes(length)
@@ -173,6 +179,20 @@ impl Source {
             programs.push(own);
         }
         programs.into_iter().map(|program| (self.name(right), program)).collect()
+    }
+
+    /// The submission's own bodies, as they are and changed; changed ones of a kept protocol where it
+    /// has none.
+    fn forms(&mut self, submission: &[u8]) -> Vec<Form> {
+        match contents::bodies(submission) {
+            Ok(own) => {
+                vec![form::unchanged(&mut self.random, own), form::changed(&mut self.random, own)]
+            }
+            Err(_) => {
+                let place = self.random.below(KEPT);
+                vec![form::changed(&mut self.random, self.kept[place].bytes())]
+            }
+        }
     }
 
     /// The guess's own name, that of a listed atom, or any.

@@ -11,12 +11,7 @@ pub fn bodies(submission: &[u8]) -> Checked<BodyBytes<'_>> {
     let Some(bodies) = divided(submission) else {
         return refuse(Reason::Contents, 0);
     };
-    for (position, (body, bytes)) in Body::ALL.into_iter().zip(bodies).enumerate() {
-        let count = bytes.len() / body.record();
-        if count < body.least() || count > body.most() {
-            return refuse(Reason::Count, position);
-        }
-    }
+    within_limits(&bodies)?;
     Ok(bodies)
 }
 
@@ -37,15 +32,12 @@ fn divided(submission: &[u8]) -> Option<BodyBytes<'_>> {
     (end == submission.len()).then_some(bodies)
 }
 
-/// The submission with these bodies: contents first. The counts are the numbers of whole records.
-pub fn submission(bodies: BodyBytes) -> Vec<u8> {
-    let mut contents = Vec::new();
-    let mut start = CONTENTS_SIZE;
-    for (body, bytes) in Body::ALL.into_iter().zip(bodies) {
-        let count = u8::try_from(bytes.len() / body.record()).expect("at most 255 records");
-        let [high, low] = u16::try_from(start).expect("a start of 16 bits").to_be_bytes();
-        contents.extend([body.letter(), count, high, low]);
-        start += bytes.len();
+/// Check 2, of bodies of whole records.
+pub fn within_limits(bodies: &BodyBytes) -> Checked<()> {
+    for (position, (body, bytes)) in Body::ALL.into_iter().zip(bodies).enumerate() {
+        if !body.allows(bytes.len() / body.record()) {
+            return refuse(Reason::Count, position);
+        }
     }
-    [contents, bodies.concat()].concat()
+    Ok(())
 }

@@ -5,6 +5,7 @@ mod conditions;
 pub mod contents;
 mod deduction;
 mod derivation;
+mod form;
 mod machine;
 mod program;
 mod refusal;
@@ -14,6 +15,7 @@ mod term;
 mod wrong_guess;
 
 use conditions::verified;
+use contents::BodyBytes;
 use deduction::Deduction;
 use derivation::founded;
 use program::Program;
@@ -30,10 +32,7 @@ pub use wrong_guess::{guess, is_wrong_guess};
 /// page.
 pub fn check(submission: &[u8], page: &mut [u8]) -> Checked<u8> {
     let program = program(submission)?;
-    match page.get_mut(..program.len()) {
-        Some(written) => written.copy_from_slice(&program),
-        None => return refuse(Reason::Page, program.len()),
-    }
+    put(page, &program)?;
     Ok(program[0])
 }
 
@@ -62,12 +61,28 @@ pub fn run(submission: &[u8], name: u16, program: &[u8]) -> Checked<bool> {
     Ok(machine::signal(&mut submission.store, registers, &program))
 }
 
+/// Writes the submission with these bodies on the page. An acceptance carries its length.
+pub fn write(bodies: BodyBytes, page: &mut [u8]) -> Checked<u16> {
+    let submission = form::submission(bodies)?;
+    put(page, &submission)?;
+    Ok(u16::try_from(submission.len()).expect("check 2 leaves short bodies"))
+}
+
 /// What the program `verdict` prints.
 pub fn verdict(submission: &[u8]) -> String {
     match accepted_program(submission) {
         Ok(program) => format!("accepted {}\n{program}", program.instructions.len()),
         Err(Refusal { reason, place }) => format!("refused {} {place}\n", reason.number()),
     }
+}
+
+/// Check 11: puts the bytes at the start of a page that is long enough.
+fn put(page: &mut [u8], bytes: &[u8]) -> Checked<()> {
+    match page.get_mut(..bytes.len()) {
+        Some(start) => start.copy_from_slice(bytes),
+        None => return refuse(Reason::Page, bytes.len()),
+    }
+    Ok(())
 }
 
 /// The program of a submission that passes checks 1 to 10.

@@ -19,8 +19,27 @@ table! {
     Claim      { letter: b'V', word: "claim",      record: 4, least: 1, most: 1 }
 }
 
+impl Body {
+    /// Whether a body may have so many records.
+    pub fn allows(self, records: usize) -> bool {
+        (self.least()..=self.most()).contains(&records)
+    }
+}
+
 /// The bytes of an entry of the contents: letter, count, start.
 pub const ENTRY_SIZE: usize = 4;
 
 /// Where the first body starts.
 pub const CONTENTS_SIZE: usize = Body::ALL.len() * ENTRY_SIZE;
+
+/// A page of this length is long enough for every submission.
+pub const LONGEST_SUBMISSION: usize = {
+    let mut length = CONTENTS_SIZE;
+    let mut position = 0;
+    while position < Body::ALL.len() {
+        let body = Body::ALL[position];
+        length += body.record() * body.most();
+        position += 1;
+    }
+    length
+};

@@ -1,6 +1,6 @@
-//! The tables of document 01, each written once. A row is a variant of the table's enum, and a
-//! column one of its methods. The reference, the generator, the notation, the comparison and the
-//! tests go by the columns.
+//! The tables of document 01, with what requests have added, each written once. A row is a variant
+//! of the table's enum, and a column one of its methods. The reference, the generator, the notation,
+//! the comparison and the tests go by the columns.
 
 /// Writes a table: an enum with one variant for each row and one method for each column.
 macro_rules! table {
@@ -34,6 +34,7 @@ macro_rules! table {
 }
 
 mod body;
+mod call;
 mod kind;
 mod program;
 mod reason;
@@ -41,7 +42,8 @@ mod rule;
 pub mod unclaimed;
 mod way;
 
-pub use body::{Body, CONTENTS_SIZE, ENTRY_SIZE};
+pub use body::{Body, CONTENTS_SIZE, ENTRY_SIZE, LONGEST_SUBMISSION};
+pub use call::Call;
 pub use kind::Kind;
 pub use program::{program_length, Test, INSTRUCTION_SIZE, LONGEST_PROGRAM, MOST_INSTRUCTIONS};
 pub use reason::Reason;

@@ -19,4 +19,5 @@ table! {
     Page        { number: 11, word: "page" }
     NoSuchTerm  { number: 12, word: "no such term" }
     Program     { number: 13, word: "program" }
+    Ragged      { number: 14, word: "ragged" }
 }

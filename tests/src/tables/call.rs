@@ -1,0 +1,23 @@
+//! The calls, and how each may refuse.
+
+use super::Reason;
+
+table! {
+    /// The calls.
+    Call: CallRow {
+        word: &'static str,
+        /// What it may refuse with.
+        refusals: &'static [Reason],
+    }
+    Check     { word: "check",     refusals: &[
+        Reason::Contents, Reason::Count, Reason::Term, Reason::Knowledge, Reason::Claim, Reason::Step,
+        Reason::Unfounded, Reason::Reachable, Reason::NoSecondWay, Reason::Undone, Reason::Page,
+    ] }
+    Deducible { word: "deducible", refusals: &[
+        Reason::Contents, Reason::Count, Reason::Term, Reason::Knowledge, Reason::NoSuchTerm,
+    ] }
+    Run       { word: "run",       refusals: &[
+        Reason::Contents, Reason::Count, Reason::Term, Reason::Knowledge, Reason::Claim, Reason::Program,
+    ] }
+    Write     { word: "write",     refusals: &[Reason::Ragged, Reason::Count, Reason::Page] }
+}
