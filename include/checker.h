@@ -1,4 +1,4 @@
-/* The checker's three calls, in libchecker.a (rt staticlib checker). bindings/ has an example in C, and a safe wrapper for Rust.
+/* The checker's four calls, in libchecker.a (rt staticlib checker). bindings/ has an example in C, and a safe wrapper for Rust.
 
    Answers. Every call takes any bytes and ends. An answer is one number. A refusal is number * 65536 + place, with the numbers and
    places of docs/VERDICTS.md; every other answer is below 65536. That each call answers what the definitions under crates/ give, and
@@ -44,6 +44,14 @@ uint32_t checker_deducible(const uint8_t *sub, size_t sub_len, uint8_t term);
 /* The signal, 1 or 0, of a register program over the submission's knowledge and a guess of this name. After an acceptance the program is
    exactly the first 3N+4 bytes of the page: any other length is refused with 13. A refusal is 1 to 5 or 13. */
 uint32_t checker_run(const uint8_t *sub, size_t sub_len, uint16_t name, const uint8_t *program, size_t program_len);
+
+/* Writes the submission of four bodies, as an intake form holds them, to the page: contents first, then the terms, the knowledge, the
+   derivation and the claim. The answer is the count of bytes written, which are the first of the page; the others are as before. A refusal
+   is 14 where a body is not whole records, then 2 where a count is outside its limits, then 11, with the submission's length as place, and
+   leaves the page as it was. Nothing else is looked at: whether the records are good is for checker_check to say. A page of 1,346 bytes is
+   never too short. */
+uint32_t checker_write(const uint8_t *terms, size_t terms_len, const uint8_t *knowledge, size_t knowledge_len, const uint8_t *derivation,
+                       size_t derivation_len, const uint8_t *claim, size_t claim_len, uint8_t *page, size_t page_len);
 
 #ifdef __cplusplus
 }

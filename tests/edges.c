@@ -12,6 +12,10 @@ static const uint8_t M1[] = {
 };
 static const uint8_t M1_PAGE[] = {0x01, 0x04, 0x01, 0x02, 0x3D, 0x03, 0x00};
 
+/* Where M1's bodies start, and how long they are. */
+enum { TERMS = 16, KNOWLEDGE = 25, DERIVATION = 27, CLAIM = 31 };
+enum { TERMS_LEN = 9, KNOWLEDGE_LEN = 2, DERIVATION_LEN = 4, CLAIM_LEN = 4 };
+
 static int failures;
 
 static void expect(const char *call, uint32_t expected, uint32_t found)
@@ -20,6 +24,13 @@ static void expect(const char *call, uint32_t expected, uint32_t found)
         return;
     printf("%s: 0x%lX and not 0x%lX\n", call, (unsigned long)found, (unsigned long)expected);
     failures++;
+}
+
+/* Writes the submission of the bodies that stand in these bytes as they do in M1. */
+static uint32_t write_again(const uint8_t *sub, uint8_t *page, size_t page_len)
+{
+    return checker_write(sub + TERMS, TERMS_LEN, sub + KNOWLEDGE, KNOWLEDGE_LEN, sub + DERIVATION, DERIVATION_LEN, sub + CLAIM, CLAIM_LEN,
+                         page, page_len);
 }
 
 static void try_null(void)
@@ -34,11 +45,26 @@ static void try_null(void)
     expect("run, no program", REFUSED(13, 0), checker_run(M1, sizeof M1, 2, NULL, 0));
 }
 
-/* The submission, and the page and then the program, each this many bytes into a buffer. */
+static void try_null_bodies(void)
+{
+    const uint8_t *terms = M1 + TERMS, *claim = M1 + CLAIM;
+    uint8_t page[TERMS + TERMS_LEN + CLAIM_LEN];
+    expect("write, nothing", REFUSED(2, 0), checker_write(NULL, 0, NULL, 0, NULL, 0, NULL, 0, NULL, 0));
+    expect("write, no body", REFUSED(2, 0), checker_write(NULL, 0, NULL, 0, NULL, 0, NULL, 0, page, sizeof page));
+    expect("write, a ragged body only", REFUSED(14, 0), checker_write(NULL, 0, NULL, 0, NULL, 0, claim, CLAIM_LEN - 1, NULL, 0));
+    expect("write, no claim", REFUSED(2, 3), checker_write(terms, TERMS_LEN, NULL, 0, NULL, 0, NULL, 0, page, sizeof page));
+    expect("write, terms and claim", sizeof page, checker_write(terms, TERMS_LEN, NULL, 0, NULL, 0, claim, CLAIM_LEN, page, sizeof page));
+    expect("write, no page", REFUSED(11, sizeof M1), write_again(M1, NULL, 0));
+}
+
+/* The submission, what is written from its bodies, and the page and then the program, each this many bytes into a buffer. */
 static void try_offset(size_t offset)
 {
-    uint8_t sub[sizeof M1 + 8], page[sizeof M1_PAGE + 8];
+    uint8_t sub[sizeof M1 + 8], written[sizeof M1 + 8], page[sizeof M1_PAGE + 8];
     memcpy(sub + offset, M1, sizeof M1);
+    expect("write", sizeof M1, write_again(sub + offset, written + offset, sizeof M1));
+    expect("the submission", 0, memcmp(written + offset, M1, sizeof M1) != 0);
+    expect("write, a byte short", REFUSED(11, sizeof M1), write_again(sub + offset, written + offset, sizeof M1 - 1));
     expect("check", 1, checker_check(sub + offset, sizeof M1, page + offset, sizeof M1_PAGE));
     expect("the page", 0, memcmp(page + offset, M1_PAGE, sizeof M1_PAGE) != 0);
     expect("deducible", 0, checker_deducible(sub + offset, sizeof M1, 1));
@@ -50,6 +76,7 @@ static void try_offset(size_t offset)
 int main(void)
 {
     try_null();
+    try_null_bodies();
     for (size_t offset = 0; offset < 8; offset++)
         try_offset(offset);
     return failures != 0;

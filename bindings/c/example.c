@@ -1,5 +1,6 @@
-/* example FILE: tries every call on the submission in a file. A line is a call, what it was asked, and its answer; a refusal is
-   `refused`, its number and its place.
+/* example FILE: takes the four bodies out of the submission in a file, as an intake form would hold them, writes the submission from
+   these, and tries the other calls on what was written. A line is a call, what it was asked, and its answer; a refusal is `refused`, its
+   number and its place. Where the contents don't fit the file, or the bodies are refused, the other calls get the file as it is.
 
    A refused submission ends with 0: it is an answer. The status is 1 where the file is not read or the output not written.
 
@@ -24,6 +25,17 @@
 /* Where the terms start in every submission. */
 #define TERMS 16
 
+/* The longest submission: 250 terms, 64 entries of knowledge, 128 steps and a claim. */
+#define LONGEST (TERMS + 3 * 250 + 64 + 4 * 128 + 4)
+
+/* Terms, knowledge, derivation and claim. */
+#define BODIES 4
+
+struct body {
+    const uint8_t *bytes;
+    size_t length;
+};
+
 static bool is_refusal(uint32_t answer) { return answer >= REFUSAL; }
 
 static void print_answer(uint32_t answer)
@@ -35,6 +47,24 @@ static void print_answer(uint32_t answer)
 }
 
 static unsigned two_bytes(const uint8_t *at) { return at[0] * 256u + at[1]; }
+
+/* Takes the bodies out of a submission. Answers false where its contents don't fit it. */
+static bool take_bodies(const uint8_t *sub, size_t length, struct body *bodies)
+{
+    static const size_t record[BODIES] = {3, 1, 4, 4};
+    size_t end = TERMS;
+    if (length < TERMS)
+        return false;
+    for (int i = 0; i < BODIES; i++) {
+        const uint8_t *entry = sub + 4 * i;
+        bodies[i].bytes = sub + end;
+        bodies[i].length = record[i] * entry[1];
+        if (entry[0] != "TKDV"[i] || two_bytes(entry + 2) != end || bodies[i].length > length - end)
+            return false;
+        end += bodies[i].length;
+    }
+    return end == length;
+}
 
 /* The name of an accepted submission's guess: the claim starts where the contents' last entry says, with the guess's term number. */
 static unsigned guess(const uint8_t *sub) { return two_bytes(sub + TERMS + 3 * sub[two_bytes(sub + 14)] + 1); }
@@ -77,7 +107,18 @@ static void show_deducible(const uint8_t *sub, size_t length)
     }
 }
 
-/* Every call; and where the submission is accepted, the signals of the program on the page, which has 3N+4 bytes, with the
+/* Writes the submission of these bodies to a page. */
+static uint32_t show_write(const struct body *bodies, uint8_t *page, size_t page_length)
+{
+    const struct body *terms = &bodies[0], *knowledge = &bodies[1], *derivation = &bodies[2], *claim = &bodies[3];
+    uint32_t answer = checker_write(terms->bytes, terms->length, knowledge->bytes, knowledge->length, derivation->bytes,
+                                    derivation->length, claim->bytes, claim->length, page, page_length);
+    printf("write ");
+    print_answer(answer);
+    return answer;
+}
+
+/* The other calls; and where the submission is accepted, the signals of the program on the page, which has 3N+4 bytes, with the
    submission's own guess and with a wrong one. */
 static void show_calls(const uint8_t *sub, size_t length)
 {
@@ -92,6 +133,20 @@ static void show_calls(const uint8_t *sub, size_t length)
     unsigned right = guess(sub);
     show_run(sub, length, right, page, program_length);
     show_run(sub, length, wrong_guess(sub, right), page, program_length);
+}
+
+static void show_all(const uint8_t *sub, size_t length)
+{
+    uint8_t written[LONGEST];
+    struct body bodies[BODIES];
+    if (take_bodies(sub, length, bodies)) {
+        uint32_t answer = show_write(bodies, written, sizeof written);
+        if (!is_refusal(answer)) {
+            show_calls(written, answer);
+            return;
+        }
+    }
+    show_calls(sub, length);
 }
 
 /* Reads a file's first bytes. Answers false, with errno set, where that fails. */
@@ -120,7 +175,7 @@ int main(int argc, char **argv)
         fprintf(stderr, "example: %s: %s\n", argv[1], strerror(errno));
         return EXIT_FAILURE;
     }
-    show_calls(sub, length);
+    show_all(sub, length);
     if (fflush(stdout) != 0 || ferror(stdout)) {
         fprintf(stderr, "example: output not written\n");
         return EXIT_FAILURE;

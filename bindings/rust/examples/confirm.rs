@@ -1,5 +1,8 @@
-//! `confirm FILE`: tries every call on the submission in a file. A line is a call, what it was
-//! asked, and its answer; a refusal is `refused`, its number and its place.
+//! `confirm FILE`: takes the four bodies out of the submission in a file, as an intake form would
+//! hold them, writes the submission from these, and tries the other calls on what was written. A
+//! line is a call, what it was asked, and its answer; a refusal is `refused`, its number and its
+//! place. Where the contents don't fit the file, or the bodies are refused, the other calls get the
+//! file as it is.
 //!
 //! A refused submission ends with 0: it is an answer. The status is 1 where the file is not read or
 //! the output not written; an output that is closed goes unnoticed, since Rust's library opens
@@ -10,7 +13,7 @@ use std::fs;
 use std::io::{self, Write};
 use std::process::ExitCode;
 
-use checker::{check, deducible, run, Refusal, LONGEST_PROGRAM};
+use checker::{check, deducible, run, write, Refusal, LONGEST_PROGRAM, LONGEST_SUBMISSION};
 
 fn main() -> ExitCode {
     match confirm() {
@@ -29,9 +32,26 @@ fn confirm() -> Result<(), String> {
     };
     let submission = fs::read(path).map_err(|error| format!("{}: {error}", path.display()))?;
     let mut out = io::stdout().lock();
-    show_calls(&submission, &mut out)
+    show_all(&submission, &mut out)
         .and_then(|()| out.flush())
         .map_err(|error| format!("output not written: {error}"))
+}
+
+fn show_all(submission: &[u8], out: &mut impl Write) -> io::Result<()> {
+    let mut page = [0; LONGEST_SUBMISSION];
+    let Some([terms, knowledge, derivation, claim]) = bodies(submission) else {
+        return show_calls(submission, out);
+    };
+    match write(terms, knowledge, derivation, claim, &mut page) {
+        Ok(written) => {
+            writeln!(out, "write {}", written.len())?;
+            show_calls(written, out)
+        }
+        Err(refusal) => {
+            writeln!(out, "write {refusal}")?;
+            show_calls(submission, out)
+        }
+    }
 }
 
 fn show_calls(submission: &[u8], out: &mut impl Write) -> io::Result<()> {
@@ -79,6 +99,25 @@ fn shown(answer: Result<bool, Refusal>) -> String {
 
 /// Where the terms start in every submission.
 const TERMS: usize = 16;
+
+/// The letters of the bodies, and the bytes of their records.
+const BODIES: [(u8, usize); 4] = [(b'T', 3), (b'K', 1), (b'D', 4), (b'V', 4)];
+
+/// The bodies of a submission; none where its contents don't fit it.
+fn bodies(submission: &[u8]) -> Option<[&[u8]; 4]> {
+    let mut bodies = [&submission[..0]; 4];
+    let mut end = TERMS;
+    for (number, (letter, record)) in BODIES.into_iter().enumerate() {
+        let entry = submission.get(4 * number..4 * number + 4)?;
+        let start = usize::from(u16::from_be_bytes([entry[2], entry[3]]));
+        if entry[0] != letter || start != end {
+            return None;
+        }
+        end = start + record * usize::from(entry[1]);
+        bodies[number] = submission.get(start..end)?;
+    }
+    (end == submission.len()).then_some(bodies)
+}
 
 /// The name of an accepted submission's guess: the claim starts where the contents' last entry
 /// says, with the guess's term number.

@@ -1,4 +1,4 @@
-//! The checker's three calls, safe to call from Rust.
+//! The checker's four calls, safe to call from Rust.
 //!
 //! Every call takes any bytes and ends. What an answer means is proved of the calls themselves; of
 //! this wrapper nothing is proved, and it only turns the one number that a call answers into a
@@ -10,8 +10,14 @@ pub mod raw;
 use std::error::Error;
 use std::fmt;
 
-/// A page of this length is never too short: 128 steps are the most.
-pub const LONGEST_PROGRAM: usize = program_length(128);
+const MOST_STEPS: usize = 128;
+
+/// A page of this length is never too short for [`check`].
+pub const LONGEST_PROGRAM: usize = program_length(MOST_STEPS);
+
+/// A page of this length is never too short for [`write`]: the contents, 250 terms, 64 entries of
+/// knowledge, the most steps and the claim.
+pub const LONGEST_SUBMISSION: usize = 16 + 3 * 250 + 64 + 4 * MOST_STEPS + 4;
 
 /// A refusal, by a number and a place of `docs/VERDICTS.md`.
 #[derive(Clone, Copy, PartialEq, Eq, Debug)]
@@ -57,6 +63,24 @@ pub fn deducible(submission: &[u8], term: u8) -> Result<bool, Refusal> {
 /// is 1 to 5 or 13.
 pub fn run(submission: &[u8], name: u16, program: &[u8]) -> Result<bool, Refusal> {
     Ok(decoded(raw::run(submission, name, program))? == 1)
+}
+
+/// Writes the submission of four bodies, as an intake form holds them, to the page: contents first.
+///
+/// An acceptance gives the bytes written, for [`check`] and the others; they are the first of the
+/// page, and its other bytes are as before. A refusal is 14 where a body is not whole records, then 2
+/// where a count is outside its limits, then 11, with the submission's length as place, and leaves
+/// the whole page as it was. Nothing else is looked at: whether the records are good is for [`check`]
+/// to say. A page of [`LONGEST_SUBMISSION`] bytes is never too short.
+pub fn write<'page>(
+    terms: &[u8],
+    knowledge: &[u8],
+    derivation: &[u8],
+    claim: &[u8],
+    page: &'page mut [u8],
+) -> Result<&'page [u8], Refusal> {
+    let length = decoded(raw::write(terms, knowledge, derivation, claim, page))?;
+    Ok(&page[..usize::from(length)])
 }
 
 /// The value of an answer, or its refusal.

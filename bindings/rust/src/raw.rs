@@ -15,6 +15,18 @@ extern "C" {
         program: *const u8,
         program_len: usize,
     ) -> u32;
+    fn checker_write(
+        terms: *const u8,
+        terms_len: usize,
+        knowledge: *const u8,
+        knowledge_len: usize,
+        derivation: *const u8,
+        derivation_len: usize,
+        claim: *const u8,
+        claim_len: usize,
+        page: *mut u8,
+        page_len: usize,
+    ) -> u32;
 }
 
 /// Checks a submission: the count N of its steps, or a refusal, 1 to 11.
@@ -35,5 +47,32 @@ pub fn run(submission: &[u8], name: u16, program: &[u8]) -> u32 {
     // SAFETY: each buffer is passed with its own length and only read.
     unsafe {
         checker_run(submission.as_ptr(), submission.len(), name, program.as_ptr(), program.len())
+    }
+}
+
+/// Writes the submission of four bodies to the page: the count of bytes written, or a refusal, 14, 2
+/// or 11.
+pub fn write(
+    terms: &[u8],
+    knowledge: &[u8],
+    derivation: &[u8],
+    claim: &[u8],
+    page: &mut [u8],
+) -> u32 {
+    // SAFETY: each buffer is passed with its own length, and only the page, which nothing else
+    // refers to, is written.
+    unsafe {
+        checker_write(
+            terms.as_ptr(),
+            terms.len(),
+            knowledge.as_ptr(),
+            knowledge.len(),
+            derivation.as_ptr(),
+            derivation.len(),
+            claim.as_ptr(),
+            claim.len(),
+            page.as_mut_ptr(),
+            page.len(),
+        )
     }
 }
