@@ -13,10 +13,10 @@ use std::time::{Duration, Instant};
 use checker::raw;
 use checker_tests::bodies::Bodies;
 use checker_tests::examples;
-use checker_tests::generate::repeated;
 use checker_tests::generate::shapes::{self, Order};
+use checker_tests::generate::{repeated, Form};
 use checker_tests::reference::{self, code};
-use checker_tests::tables::{Body, Rule, LONGEST_PROGRAM};
+use checker_tests::tables::{Body, Rule, LONGEST_PROGRAM, LONGEST_SUBMISSION};
 
 /// The shortest time to measure, and how many measurements the fastest is taken of. Short ones end
 /// before another process gets the processor.
@@ -40,6 +40,10 @@ fn main() {
     let doubling = shapes::doubling_known(Body::Terms.most());
     let pairs = repeated(Rule::Pair, doubling.knowledge.len() as u8, |register| register);
     measure_run("128 times pair r r, 250 terms", &doubling.submission(), &pairs);
+    measure_write_again("M1", &examples::submission("M1"));
+    measure_write_again("typical", &examples::submission(TYPICAL));
+    measure_write_again("largest", &shapes::largest().submission());
+    measure_write("70,000 records in each body, refused", &Form::zeros(70_000));
     for name in ["M1", TYPICAL] {
         measure_program(name, &verdict);
     }
@@ -95,6 +99,21 @@ fn measure_run(title: &str, submission: &[u8], program: &[u8]) {
 fn measure_own_page(title: &str, submission: &[u8]) {
     let program = reference::program(submission).expect("an accepted submission");
     measure_run(&format!("{title}, its own page"), submission, &program);
+}
+
+fn measure_write(title: &str, form: &Form) {
+    let [terms, knowledge, derivation, claim] = form.bodies();
+    let mut page = form.page.clone();
+    let checker =
+        nanoseconds(|| raw::write(black_box(terms), knowledge, derivation, claim, &mut page));
+    let reference = nanoseconds(|| code(reference::write(black_box(form.bodies()), &mut page)));
+    print_row("write", title, form.bodies().concat().len(), checker, reference);
+}
+
+/// Writes the submission from its own bodies.
+fn measure_write_again(title: &str, submission: &[u8]) {
+    let form = Form::new(bodies(submission).bytes(), LONGEST_SUBMISSION);
+    measure_write(&format!("{title}, its own bodies"), &form);
 }
 
 /// Starts the program on an example, and the reference's program, which is built beside this one.

@@ -9,6 +9,7 @@ use std::process::ExitCode;
 use checker::raw;
 use checker_tests::arguments::seed_and_count;
 use checker_tests::generate::{deepest, Input, Source};
+use checker_tests::tables::Call;
 
 const DEFAULT_COUNT: u64 = 20_000;
 
@@ -17,8 +18,6 @@ const ROOM: usize = 1024 * 1024;
 
 const PAINT: u128 = 0xA5A5_A5A5_5A5A_5A5A_C3C3_C3C3_3C3C_3C3C;
 const PAINT_SIZE: usize = size_of::<u128>();
-
-const CALLS: [&str; 3] = ["check", "deducible", "run"];
 
 fn main() -> ExitCode {
     let (seed, count) = match seed_and_count("stack", DEFAULT_COUNT) {
@@ -38,7 +37,7 @@ fn main() -> ExitCode {
 
 /// Prints what each call needs at most on these inputs, and on which of them.
 fn print_most(group: &str, stack: &mut Stack, inputs: impl Iterator<Item = (String, Input)>) {
-    let mut most = CALLS.map(|_| (0, String::new()));
+    let mut most = Call::ALL.map(|_| (0, String::new()));
     for (title, input) in inputs {
         for (most, need) in most.iter_mut().zip(needs(stack, &input)) {
             if need > most.0 {
@@ -47,23 +46,34 @@ fn print_most(group: &str, stack: &mut Stack, inputs: impl Iterator<Item = (Stri
         }
     }
     println!("{group}");
-    for (call, (bytes, title)) in CALLS.into_iter().zip(most) {
-        println!("{call:>11}{bytes:>9} bytes  {title}");
+    for (call, (bytes, title)) in Call::ALL.into_iter().zip(most) {
+        println!("{:>11}{bytes:>9} bytes  {title}", call.word());
     }
 }
 
-/// What each of the calls needs on this input.
-fn needs(stack: &mut Stack, input: &Input) -> [usize; 3] {
-    let submission = &input.submission;
-    let mut page = input.page.clone();
-    let check = stack.used_by(|| raw::check(submission, &mut page));
-    let asked = input.asked.iter().map(|&term| stack.used_by(|| raw::deducible(submission, term)));
-    let deducible = asked.max().unwrap_or(0);
-    let runs = input
-        .runs
-        .iter()
-        .map(|(name, program)| stack.used_by(|| raw::run(submission, *name, program)));
-    [check, deducible, runs.max().unwrap_or(0)]
+/// What each of the calls needs at most on this input.
+fn needs(stack: &mut Stack, input: &Input) -> [usize; Call::ALL.len()] {
+    Call::ALL.map(|call| match call {
+        Call::Check => {
+            let mut page = input.page.clone();
+            stack.used_by(|| raw::check(&input.submission, &mut page))
+        }
+        Call::Deducible => {
+            most(&input.asked, |term| stack.used_by(|| raw::deducible(&input.submission, *term)))
+        }
+        Call::Run => most(&input.runs, |(name, program)| {
+            stack.used_by(|| raw::run(&input.submission, *name, program))
+        }),
+        Call::Write => most(&input.forms, |form| {
+            let [terms, knowledge, derivation, claim] = form.bodies();
+            let mut page = form.page.clone();
+            stack.used_by(|| raw::write(terms, knowledge, derivation, claim, &mut page))
+        }),
+    })
+}
+
+fn most<T>(inputs: &[T], need: impl FnMut(&T) -> usize) -> usize {
+    inputs.iter().map(need).max().unwrap_or(0)
 }
 
 struct Stack(Vec<u128>);

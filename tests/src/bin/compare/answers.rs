@@ -3,8 +3,8 @@
 use std::thread;
 
 use checker::raw::{self, REFUSAL};
-use checker_tests::generate::Input;
-use checker_tests::tables::program_length;
+use checker_tests::generate::{Form, Input};
+use checker_tests::tables::{program_length, LONGEST_PROGRAM};
 
 /// The stack of the thread that calls the checker, in bytes: what a call needs at most, as
 /// include/checker.h says.
@@ -20,6 +20,16 @@ pub struct Answers {
     /// The signals of the program on the page, where the submission is accepted: with the right
     /// guess, then with each of the input's other names.
     pub signals: Vec<u32>,
+    pub writes: Vec<Written>,
+}
+
+/// What the checker answers to a form.
+pub struct Written {
+    pub answer: u32,
+    /// The page after the call.
+    pub page: Vec<u8>,
+    /// What check answers to the bytes written, where the form is accepted.
+    pub check: Option<u32>,
 }
 
 /// The answers to these inputs. A call that needs more stack ends the process, with the thread's
@@ -54,7 +64,20 @@ impl Answers {
                 .iter()
                 .map(|(name, program)| raw::run(submission, *name, program))
                 .collect(),
+            writes: input.forms.iter().map(Written::to).collect(),
         }
+    }
+}
+
+impl Written {
+    fn to(form: &Form) -> Written {
+        let [terms, knowledge, derivation, claim] = form.bodies();
+        let mut page = form.page.clone();
+        let answer = raw::write(terms, knowledge, derivation, claim, &mut page);
+        let check = page
+            .get(..answer as usize)
+            .map(|written| raw::check(written, &mut [0; LONGEST_PROGRAM]));
+        Written { answer, page, check }
     }
 }
 

@@ -5,6 +5,7 @@
 //! `compare [--seed SEED] [--count COUNT]`
 
 mod answers;
+mod forms;
 mod tally;
 
 use std::process::ExitCode;
@@ -15,7 +16,9 @@ use checker_tests::arguments::seed_and_count;
 use checker_tests::examples;
 use checker_tests::generate::{deepest, Input, Source};
 use checker_tests::reference::{self, code, REFUSAL};
-use tally::{Call, Tally};
+use checker_tests::tables::Call;
+use forms::compare_form;
+use tally::Tally;
 
 const DEFAULT_COUNT: u64 = 200_000;
 
@@ -90,6 +93,9 @@ fn compare_input(input: &Input, found: &Answers, tally: &mut Tally) -> Result<()
         same(input, &format!("run {name} {}", hex(program)), code(expected), found)?;
         tally.count(Call::Run, expected);
     }
+    for (form, found) in input.forms.iter().zip(&found.writes) {
+        compare_form(input, form, found, tally)?;
+    }
     Ok(())
 }
 
@@ -99,10 +105,7 @@ fn compare_check(input: &Input, found: &Answers, tally: &mut Tally) -> Result<()
     let expected = reference::check(&input.submission, &mut expected_page);
     let call = format!("check with a page of {} bytes", input.page.len());
     same(input, &call, code(expected), found.check)?;
-    if expected_page != found.page {
-        let pages = format!("{} and {}", hex(&expected_page), hex(&found.page));
-        return Err(difference(input, &call, &format!("pages {pages}")));
-    }
+    same_bytes(input, &call, &expected_page, &found.page)?;
     tally.count(Call::Check, expected.map(|_| true));
     match expected {
         Ok(_) => compare_signals(input, &found.signals, tally),
@@ -131,6 +134,13 @@ fn same(input: &Input, call: &str, expected: u32, found: u32) -> Result<(), Stri
         return Ok(());
     }
     Err(difference(input, call, &format!("{} and {}", answer(expected), answer(found))))
+}
+
+fn same_bytes(input: &Input, call: &str, expected: &[u8], found: &[u8]) -> Result<(), String> {
+    if expected == found {
+        return Ok(());
+    }
+    Err(difference(input, call, &format!("{} and {}", hex(expected), hex(found))))
 }
 
 /// The two sides, the reference's first, and the input to try again.

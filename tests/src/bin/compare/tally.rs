@@ -1,32 +1,29 @@
 //! Counts of what the inputs reached.
 
 use checker_tests::bodies::Bodies;
-use checker_tests::reference::Checked;
-use checker_tests::tables::{Kind, Reason, Way};
+use checker_tests::reference::{Checked, Refusal};
+use checker_tests::tables::{Body, Call, Kind, Reason, Way};
 
-#[derive(Clone, Copy)]
-pub enum Call {
-    Check,
-    Deducible,
-    Run,
-}
-
-/// The answers of one call: accepted, yes or 1; no or 0; and the refusals by number.
+/// The answers of one call: accepted, yes or 1; no or 0; the refusals by number; and those for a
+/// count by their place, which is that of the body.
 #[derive(Default)]
 struct Answers {
     yes: u64,
     no: u64,
     refused: [u64; Reason::ALL.len()],
+    counts: [u64; Body::ALL.len()],
 }
 
 #[derive(Default)]
 pub struct Tally {
-    answers: [Answers; 3],
+    answers: [Answers; Call::ALL.len()],
     /// The lowest and highest place of each refusal.
     places: [Option<(usize, usize)>; Reason::ALL.len()],
     /// Accepted submissions by way and by kind of guess.
     accepted: [[u64; Kind::ALL.len()]; Way::ALL.len()],
     pub wrong_guesses: u64,
+    /// Submissions written again from their own bodies.
+    pub rewritten: u64,
 }
 
 impl Tally {
@@ -35,11 +32,14 @@ impl Tally {
         match answer {
             Ok(true) => answers.yes += 1,
             Ok(false) => answers.no += 1,
-            Err(refusal) => {
-                let row = refusal.reason as usize;
-                answers.refused[row] += 1;
-                let (low, high) = self.places[row].unwrap_or((refusal.place, refusal.place));
-                self.places[row] = Some((low.min(refusal.place), high.max(refusal.place)));
+            Err(Refusal { reason, place }) => {
+                answers.refused[reason as usize] += 1;
+                if reason == Reason::Count {
+                    answers.counts[place] += 1;
+                }
+                let places = &mut self.places[reason as usize];
+                let (low, high) = places.unwrap_or((place, place));
+                *places = Some((low.min(place), high.max(place)));
             }
         }
     }
@@ -52,7 +52,8 @@ impl Tally {
     }
 
     pub fn print(&self) {
-        println!("{:<20}{:>10}{:>10}{:>10}  places", "answer", "check", "deducible", "run");
+        let calls = cells(Call::ALL, |call| call.word().to_string());
+        println!("{:<20}{calls}  places", "answer");
         self.print_row("accepted, yes, 1", |answers| answers.yes, String::new());
         self.print_row("no, 0", |answers| answers.no, String::new());
         for reason in Reason::ALL {
@@ -63,27 +64,30 @@ impl Tally {
             };
             self.print_row(&title, |answers| answers.refused[reason as usize], places);
         }
-        println!("\n{}", accepted_row("accepted, guess", |kind| kind.word().to_string()));
+        let kinds = cells(Kind::atoms(), |kind| kind.word().to_string());
+        println!("\n{:<20}{kinds}", "accepted, guess");
         for way in Way::ALL {
-            let count = |kind| self.accepted[way as usize][kind as usize].to_string();
-            println!("{}", accepted_row(&way_title(way), count));
+            let counts = &self.accepted[way as usize];
+            let counts = cells(Kind::atoms(), |kind| counts[kind as usize].to_string());
+            println!("{:<20}{counts}", way_title(way));
         }
         println!("\nwrong guesses that signalled 0: {}", self.wrong_guesses);
+        println!("submissions written again from their bodies: {}", self.rewritten);
     }
 
+    /// A row with one cell for each call.
     fn print_row(&self, title: &str, cell: impl Fn(&Answers) -> u64, places: String) {
-        let [check, deducible, run] = [0, 1, 2].map(|call| cell(&self.answers[call]));
-        println!("{title:<20}{check:>10}{deducible:>10}{run:>10}  {places}");
+        let counts = cells(Call::ALL, |call| cell(&self.answers[call as usize]).to_string());
+        println!("{title:<20}{counts}  {places}");
     }
 
-    /// Fails where a refusal, a way or a kind of guess was never reached.
+    /// Fails where one of a call's refusals, a count at one of the places, an acceptance, a way or a
+    /// kind of guess was never reached, or where no submission was written again.
     pub fn complete(&self) -> Result<(), String> {
-        let mut missing = Vec::new();
-        for reason in Reason::ALL {
-            if self.answers.iter().all(|answers| answers.refused[reason as usize] == 0) {
-                missing.push(format!("refusal {}", reason.number()));
-            }
-        }
+        let mut missing: Vec<String> = Call::ALL
+            .into_iter()
+            .flat_map(|call| self.answers[call as usize].missing(call))
+            .collect();
         for way in Way::ALL {
             if self.accepted[way as usize].iter().sum::<u64>() == 0 {
                 missing.push(way_title(way));
@@ -94,6 +98,9 @@ impl Tally {
                 missing.push(format!("a guess of kind {}", kind.number()));
             }
         }
+        if self.rewritten == 0 {
+            missing.push("a submission written again".to_string());
+        }
         if missing.is_empty() {
             Ok(())
         } else {
@@ -102,13 +109,31 @@ impl Tally {
     }
 }
 
+impl Answers {
+    /// What the call should have answered and did not.
+    fn missing(&self, call: Call) -> Vec<String> {
+        let mut missing = Vec::new();
+        if self.yes == 0 {
+            missing.push("accepted, yes or 1".to_string());
+        }
+        for &reason in call.refusals() {
+            if self.refused[reason as usize] == 0 {
+                missing.push(format!("refused {}", reason.number()));
+            }
+            if reason == Reason::Count {
+                let never = (0..self.counts.len()).filter(|&place| self.counts[place] == 0);
+                missing.extend(never.map(|place| format!("refused {} {place}", reason.number())));
+            }
+        }
+        missing.into_iter().map(|answer| format!("{} {answer}", call.word())).collect()
+    }
+}
+
 fn way_title(way: Way) -> String {
     format!("way {}", char::from(way.letter()))
 }
 
-/// A row with one cell for each kind of guess.
-fn accepted_row(title: &str, cell: impl Fn(Kind) -> String) -> String {
-    let cells: String =
-        Kind::atoms().into_iter().map(|kind| format!("{:>10}", cell(kind))).collect();
-    format!("{title:<20}{cells}")
+/// One cell for each column.
+fn cells<T>(columns: impl IntoIterator<Item = T>, cell: impl Fn(T) -> String) -> String {
+    columns.into_iter().map(|column| format!("{:>10}", cell(column))).collect()
 }
