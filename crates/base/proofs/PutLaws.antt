@@ -3,10 +3,10 @@ use mathlib.Core.Path.{_≡_, refl, sym, ap, _∙_}
 use mathlib.Core.Logic.{⊎-elim}
 use mathlib.Core.List.{List, [], _∷_, _++_}
 use Prim.Native.Nat.{ℕ, suc, _+_, _-_, _≤_, _<_}
-use native.Mathlib.Nat.{add-zero, zero-add, add-suc, suc-add}
+use native.Mathlib.Nat.{add-zero, zero-add, add-suc, suc-add, le-antisymm}
 use native.Mathlib.Numerals.{add-one}
 use native.Mathlib.Omega.{arith}
-use lib.ListN.{length, getD, set, take, drop, length-append, take-append-drop, drop-of-length-le}
+use lib.ListN.{length, getD, set, take, drop, length-append, length-set, take-append-drop, drop-of-length-le}
 use lib.Seq.{sets, sets-eq, length-sets, set-out, take-append-seam, take-suc, take-all, length-take-le}
 use Rattle.base.proofs.Order.{lt-or-ge}
 use Rattle.base.specs.Answer.{Puts}
@@ -26,8 +26,8 @@ puts-length {a} {b} {text} {i} p = rw (p .stored) (length-sets a i text)
 pub puts-none : {a : List ℕ} {i : ℕ} → Puts a i [] a i
 puts-none = record { stored = refl; place = omega arith }
 
-pub puts-full : (a : List ℕ) (i b : ℕ) → length a ≤ i → Puts a i (b ∷ []) a i
-puts-full a i b h = record { stored = sym (sets-past a i (b ∷ []) h); place = omega arith }
+pub puts-full : (a : List ℕ) (i : ℕ) (text : List ℕ) → length a ≤ i → Puts a i text a i
+puts-full a i text h = record { stored = sym (sets-past a i text h); place = omega arith }
 
 pub puts-then : {a b c xs ys : List ℕ} {i j k : ℕ} → Puts a i xs b j → Puts b j ys c k → Puts a i (xs ++ ys) c k
 puts-then {a} {b} {c} {xs} {ys} {i} {j} {k} p q =
@@ -65,13 +65,38 @@ puts-whole {a} {b} {text} {k} p h =
     let l : k ≡ length text = omega (arith, p .place) in
     (l, rw (l, puts-front p, take-all (length a) text h, take-append-seam))
 
--- a word, byte by byte
-module _ {a b : List ℕ} {k j : ℕ} (word : List ℕ) (i : ℕ) where
-  pub word-more : {c : List ℕ} {m : ℕ} → Puts a k (take i word) b j → i < length word → Puts b j (getD word i 0 ∷ []) c m → Puts a k (take (i + 1) word) c m
-  word-more p h q = rw (add-one, take-suc word i 0 h) (puts-then p q)
+-- bytes, one by one: the first i of them stand in b
+pub record Copied (a : List ℕ) (k : ℕ) (bytes : List ℕ) (i : ℕ) (b : List ℕ) : Type 0 where
+  pub is : b ≡ sets a k (take i bytes)
+  pub long : length b ≡ length a
 
-  pub word-all : Puts a k (take i word) b j → length word ≤ i → Puts a k word b j
-  word-all p h = rw (take-all i word h) at p
+pub copied-none : (a : List ℕ) (k : ℕ) (bytes : List ℕ) → Copied a k bytes 0 a
+copied-none a k bytes = record { is = refl; long = refl }
+
+pub copied-more : {a b : List ℕ} {k i : ℕ} (bytes : List ℕ) (n : ℕ) → Copied a k bytes i b → i < n → n ≤ length bytes → Copied a k bytes (i + 1) (set b (k + i) (getD bytes i 0))
+copied-more {a} {b} {k} {i} bytes n p h m =
+    let f : length (take i bytes) ≡ i = length-take-le i bytes (omega arith) in
+    record {
+      is = rw (p .is, add-one i, take-suc bytes i 0 (omega arith), sets-append a k (take i bytes) (getD bytes i 0 ∷ []), f);
+      long = length-set b (k + i) (getD bytes i 0) ∙ p .long;
+    }
+
+pub copied-all : {a b : List ℕ} {k i : ℕ} (bytes : List ℕ) (n : ℕ) → Copied a k bytes i b → i ≤ n → n ≤ i → b ≡ sets a k (take n bytes)
+copied-all bytes n p l h = rw (le-antisymm h l) (p .is)
+
+-- and the place after them: the buffer has room for all, or for some
+
+pub put-all : {a b : List ℕ} (k : ℕ) (bytes : List ℕ) → length bytes < length a - k → b ≡ sets a k (take (length bytes) bytes) → Puts a k bytes b (k + length bytes)
+put-all {a} {b} k bytes h e = record { stored = e ∙ rw (take-all (length bytes) bytes (omega arith)); place = omega arith }
+
+pub put-some : {a b : List ℕ} (k : ℕ) (bytes : List ℕ) → k < length a → length a - k ≤ length bytes → b ≡ sets a k (take (length a - k) bytes) → Puts a k bytes b (length b)
+put-some {a} {b} k bytes l h e =
+    let n = length a - k in
+    let t = take n bytes in
+    let m : length t ≡ n = length-take-le n bytes h in
+    let f : sets a k bytes ≡ sets a k t =
+    ap (sets a k) (sym (take-append-drop n bytes)) ∙ sets-append a k t (drop n bytes) ∙ sets-past (sets a k t) (k + length t) (drop n bytes) (omega (arith, length-sets a k t)) in
+    record { stored = e ∙ sym f; place = rw e (length-sets a k t ∙ omega arith) }
 
 -- what was written is no longer than the buffer
 pub puts-taken : {a b text : List ℕ} {k : ℕ} → Puts a 0 text b k → k ≡ length (take k b)

@@ -3,7 +3,9 @@
 // Promises: every function is total, and its answer is what the definitions of specs/ give.
 ghost use mathlib.Core.Path.{_≡_};
 ghost use mathlib.Core.List.{[], _∷_};
-ghost use Prim.Native.Nat.{_+_, _*_, _<_};
+ghost use Prim.Native.Nat.{_+_, _*_, _≤_, _<_};
+ghost use lib.ListN.{length, take};
+ghost use lib.Seq.{sets};
 ghost use Rattle.base.specs.Answer.{done, answerOf, Puts};
 ghost use Rattle.base.specs.Words.{byte as byteAt};
 ghost use Rattle.base.specs.Code.{checkOf};
@@ -72,15 +74,31 @@ pub fn put(out: &mut [u8], at: usize, b: u8) -> usize
     at
 }
 
-// Stores bytes one after the other, as far as the buffer reaches.
+// Stores the first n bytes from this place on.
+fn copy(out: &mut [u8], from: usize, bytes: &[u8], n: usize)
+    requires { ⌜ n ≤ length (now bytes) ⌝ }
+    requires { ⌜ from + n ≤ length (now out) ⌝ }
+    ensures { λ _. ⌜ now (out .exit) ≡ sets (now (out .entry)) from (take n (now (bytes .entry))) ⌝ }
+{
+    let mut i = 0;
+    while i < n {
+        out[from + i] = bytes[i];
+        i += 1;
+    }
+}
+
+// Stores the bytes from this place on, as far as the buffer reaches, and gives the place after them.
 pub fn put_bytes(out: &mut [u8], from: usize, bytes: &[u8]) -> usize
     ensures { λ r. ⌜ Puts (now (out .entry)) from (now (bytes .entry)) (now (out .exit)) r ⌝ }
 {
-    let mut at = from;
-    let mut i = 0;
-    while i < bytes.len() {
-        at = put(out, at, bytes[i]);
-        i += 1;
+    if out.len() <= from {
+        return from;
     }
-    at
+    let room = out.len() - from;
+    if bytes.len() < room {
+        copy(out, from, bytes, bytes.len());
+        return from + bytes.len();
+    }
+    copy(out, from, bytes, room);
+    out.len()
 }

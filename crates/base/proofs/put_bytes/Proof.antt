@@ -1,53 +1,46 @@
--- The loop's invariant: the bytes passed stand in the buffer.
+-- The buffer was full before, or has room for all bytes, or for some.
 use borrow.Author.Needs.{needs}
-use Prim.Native.Nat.{_-_}
-use lib.ListN.{length, take}
-use Rattle.base.specs.Answer.{Puts}
-use Rattle.base.proofs.PutLaws.{puts-none, word-more, word-all, puts-length}
+use Rattle.base.proofs.PutLaws.{puts-full, put-all, put-some}
 use Rattle.base.proofs.put_bytes.Statement.{statement}
 use Rattle.base.proofs.put_bytes.Tie as tie
 
-abbrev Inv-loop : tie.InvT-loop
-Inv-loop out₀ from word at₀ i₀ out at i = Puts out₀ from (take i word) out at
+returns : tie.Need-returns
+returns c = search (puts-full, needs)
 
-abbrev μ-loop : tie.MeasureT-loop
-μ-loop out₀ from word at₀ i₀ out at i = length word - i
+sub-room : tie.Need-sub-room
+sub-room c = search needs
 
-loop-holds : tie.Need-loop-holds Inv-loop μ-loop
-loop-holds c = search (puts-none, needs)
+copy-requires : tie.Need-copy-requires
+copy-requires c κs = search needs
 
-shared-slice-read-put : tie.Need-shared-slice-read-put Inv-loop μ-loop
-shared-slice-read-put c = search needs
+add-result : tie.Need-add-result
+add-result c = search needs
 
-put-requires : tie.Need-put-requires Inv-loop μ-loop
-put-requires c κs = search needs
+same-length : tie.Need-same-length
+same-length c = search needs
 
-add-i : tie.Need-add-i Inv-loop μ-loop
-add-i c = search needs
+returns-2 : tie.Need-returns-2
+returns-2 c = search (put-all, needs)
 
-loop-less : tie.Need-loop-less Inv-loop μ-loop
-loop-less c = search needs
+copy-requires-2 : tie.Need-copy-requires-2
+copy-requires-2 c κs = search needs
 
-loop-again : tie.Need-loop-again Inv-loop μ-loop
-loop-again c = search (word-more, needs)
+same-length-2 : tie.Need-same-length-2
+same-length-2 c = search needs
 
-same-length : tie.Need-same-length Inv-loop μ-loop
-same-length c = search (puts-length, needs)
-
-returns : tie.Need-returns Inv-loop μ-loop
-returns c = search (word-all, needs)
+returns-3 : tie.Need-returns-3
+returns-3 c = search (put-some, needs)
 
 pub put-bytes-spec : {M : Type 1} → statement M
 put-bytes-spec =
     tie.close
     (tie.spec
-    Inv-loop
-    μ-loop
-    loop-holds
-    shared-slice-read-put
-    put-requires
-    add-i
-    loop-less
-    loop-again
+    returns
+    sub-room
+    copy-requires
+    add-result
     same-length
-    returns)
+    returns-2
+    copy-requires-2
+    same-length-2
+    returns-3)
