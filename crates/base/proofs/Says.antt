@@ -8,7 +8,7 @@ use lib.Dec.{eqb, ltb}
 use native.Mathlib.Omega.{arith}
 use borrow.Author.Tests.{ltb-true, ltb-false, eqb-true, lt-ltb, le-ltb, eq-eqb}
 use Rattle.base.specs.{Words.first, Computed.any, Code.isSome}
-use Rattle.base.proofs.First.{first-none, first-some, passed-all}
+use Rattle.base.proofs.First.{first-none, first-some, passed-all, passed-not-any}
 
 abbrev pub Says : Bool → Type 0 → Type 0
 Says b P = (b ≡ true) ↔ P
@@ -96,6 +96,9 @@ says-any {P} p n h = go (first p n) refl
     go none e = (λ i. absurd (false≢true i), λ (k, l, x). absurd (true≢false (sym (h k l .1 x) ∙ first-none p n e k l)))
     go (some i) e = let r = first-some p n i e in (λ _. (i, r .0, h i (r .0) .0 (r .1)), λ _. refl)
 
-pub any-false : (p : ℕ → Bool) (n : ℕ) → any p n ≡ false → (k : ℕ) → k < n → p k ≡ false
-any-false p n e k l =
-    ⊎-elim (λ t. absurd (denies (any p n) (says-any p n (λ j m. says-true (p j))) .0 e (k, l, t))) (λ f. f) (true-or-false (p k))
+pub any-false : (p : ℕ → Bool) (n : ℕ) → (any p n ≡ false) ↔ ((k : ℕ) → k < n → p k ≡ false)
+any-false p n = (there, λ f. passed-not-any (record { within = omega arith; failed = f }) (omega arith))
+  where
+    there : any p n ≡ false → (k : ℕ) → k < n → p k ≡ false
+    there e k l =
+        ⊎-elim (λ t. absurd (denies (any p n) (says-any p n (λ j m. says-true (p j))) .0 e (k, l, t))) (λ f. f) (true-or-false (p k))

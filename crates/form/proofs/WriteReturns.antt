@@ -1,16 +1,15 @@
 -- The pieces of a submission, one after the other on the page, and the checks in order: a law for each return.
-use mathlib.Core.Path.{_≡_, refl, sym, ap, _∙_}
-use mathlib.Core.Bool.{false}
-use mathlib.Core.List.{List, [], _∷_, _++_}
+use mathlib.Core.Path.{_≡_, sym, ap, _∙_}
+use mathlib.Core.List.{List, [], _∷_}
 use Prim.Native.Nat.{ℕ, _+_, _/_, _%_, _≤_, _<_}
 use native.Mathlib.Omega.{arith}
-use lib.{Dec.ltb, ListN.length, ListN.getD, ListN.drop, Seq.take-all}
+use lib.{Dec.ltb, ListN.length, ListN.getD, Seq.take-all}
 use borrow.Author.Tests.{lt-ltb, le-ltb}
 use Rattle.base.specs.declared.Answer.{Answer as AnswerGiven}
 use Rattle.base.specs.declared.Answer.the-variants as given
 use Rattle.base.specs.declared.Stage.{Stage}
 use Rattle.base.specs.declared.Stage.the-variants as stage
-use Rattle.base.specs.{Words.first, Words.firstFrom, Answer.Answer, Answer.done, Answer.refused, Answer.answerOf, Answer.Puts, Code.checkOf}
+use Rattle.base.specs.{Words.first, Words.firstFrom, Answer.done, Answer.refused, Answer.answerOf, Answer.Puts, Code.checkOf}
 use Rattle.base.specs.Computed.{Check, any, passes, fails, failsIf, andThen, answered}
 use Rattle.base.proofs.AnswerLaws.{if-passes}
 use Rattle.base.proofs.PutLaws.{puts-then, puts-front}
@@ -19,7 +18,7 @@ use Rattle.submission.specs.{Body.Bodies, Body.bodies, Body.records, Body.conte
 use Rattle.form.specs.Computed.{ragged, writeAnswer}
 use Rattle.form.specs.Code.{Whole}
 use Rattle.form.specs.Calls.{Written}
-use Rattle.form.proofs.theory.WholeBodies.{submission-length, whole, first-start, starts}
+use Rattle.form.proofs.theory.WholeBodies.{submission-length, whole, starts}
 
 -- ---- the bytes
 module _ {p0 p1 p2 p3 p4 : List ℕ} {i0 i1 i2 i3 i4 : ℕ} where
@@ -35,8 +34,8 @@ module _ {p0 p1 p2 p3 p4 : List ℕ} {i0 i1 i2 i3 i4 : ℕ} where
       Puts p0 i0 (contents (records (bodies t k d c))) p4 i4
   unfolding contents
   contents-put t k d c w l0 l1 l2 l3 =
-      let (e1, e2, e3) = starts w in
-      rw (first-start, e1, e2, e3) (puts-then (puts-then (puts-then l0 l1) l2) l3)
+      let e = starts w in
+      rw (e .terms, e .knowledge, e .steps, e .claim) (puts-then (puts-then (puts-then l0 l1) l2) l3)
 
 pub submission-put : {p0 p1 p2 p3 p4 p5 : List ℕ} {i0 i1 i2 i3 i4 i5 : ℕ} (t k d c : List ℕ) →
     Puts p0 i0 (contents (records (bodies t k d c))) p1 i1 → Puts p1 i1 t p2 i2 → Puts p2 i2 k p3 i3 → Puts p3 i3 d p4 i4 → Puts p4 i4 c p5 i5 →

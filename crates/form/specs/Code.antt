@@ -1,5 +1,5 @@
 -- What the code's requirements mean in document 02's terms.
-use Rattle.base.specs.Words.{_≡_, ℕ, _*_, _/_, _≤_, false, length}
+use Rattle.base.specs.Words.{_≡_, _*_, _/_, _≤_, false, length}
 use Rattle.base.specs.Computed.{any, passes}
 use Rattle.submission.specs.{Body.Bodies, Body.records, Computed.checkLimits}
 use Rattle.form.specs.Computed.{ragged}

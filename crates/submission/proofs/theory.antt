@@ -1,4 +1,5 @@
 -- Theory: laws and theorems about the definitions. What is beside it serves the proofs of single functions.
+pub mod ContentsMeant
 pub mod FreshLaws
 pub mod GoodRecord
 pub mod Limits

@@ -1,7 +1,8 @@
 -- The table of ways, and rows 1 to 5 of the table of verdicts: document 01, 'The submission' and 'Verdicts'.
-use Rattle.base.specs.{Words._≡_, Words._⊎_, Words.Bool, Words.true, Words.false, Words.cond, Words.List, Words.[], Words._∷_, Words._++_, Words.Option, Words.none, Words.some, Words.ℕ, Words._+_, Words._*_, Words._<_, Words._≤_, Words.eqb, Words.length, Words.byte, Answer.numbered}
+use Rattle.base.specs.{Words._≡_, Words._⊎_, Words.Bool, Words.true, Words.false, Words.cond, Words.List, Words.[], Words._∷_, Words._++_, Words.Option, Words.none, Words.some, Words.ℕ, Words._<_, Words._≤_, Words.eqb, Words.length, Words.take, Answer.numbered}
 use Rattle.term.specs.{Term.Kind, Term.Second, Term.absent, Term.anything, Term.keyFor, Term.second, Term.Shape, Term.atomic, Term.compound, Term.isKeyFor, Term.Relation, Term.equal, Term.inverses, Number.shapeOf}
-use Rattle.submission.specs.Record.{letter, count, start, least, most, terms, entries, steps, kindAt, xAt, yAt, entryAt, guess, verifying, wayAt, companion}
+use Rattle.submission.specs.Record.{count, start, least, most, terms, entries, steps, kindAt, xAt, yAt, entryAt, guess, verifying, wayAt, companion}
+use Rattle.submission.specs.Body.{contents}
 
 -- way a: another step concludes the same term; way b: it is known at the start; way c: its inverse key is known
 pub data Way : Type 0 where
@@ -44,12 +45,10 @@ InRange s step-number n = n < steps s
 InRange s term-number n = n < terms s
 InRange s zero-only n = n ≡ 0
 
--- "under 16 bytes; a letter, start or the length wrong"
-abbrev pub BadContents : List ℕ → Type 0
-BadContents s =
-    (length s < 16)
-    ⊎ (((i : ℕ) × (i < 4) × (byte s (4 * i) ≡ letter i → ⊥))
-    ⊎ (((i : ℕ) × (i < 4) × (byte s (4 * i + 2) * 256 + byte s (4 * i + 3) ≡ start s i → ⊥)) ⊎ (length s ≡ start s 4 → ⊥)))
+-- not "under 16 bytes; a letter, start or the length wrong": the first 16 bytes are the contents of the counts that stand in them, and the
+-- last body ends the submission
+abbrev pub ContentsFit : List ℕ → Type 0
+ContentsFit s = (take 16 s ≡ contents (count s)) × (length s ≡ start s 4)
 
 -- "y a plain atom", "y a key of kind 2 or 3", as the second operand of record i; where there is none, y is 0
 abbrev pub HasSecond : List ℕ → ℕ → Second → Type 0
@@ -80,7 +79,7 @@ row2 n = numbered 2 (λ i. (i < 4) × ((n i < least i) ⊎ (most i < n i)))
 
 -- 1 contents; 2 count
 abbrev pub rows1and2 : List ℕ → List (ℕ → ℕ → Type 0)
-rows1and2 s = numbered 1 (λ p. (p ≡ 0) × BadContents s) ∷ row2 (count s) ∷ []
+rows1and2 s = numbered 1 (λ p. (p ≡ 0) × (ContentsFit s → ⊥)) ∷ row2 (count s) ∷ []
 
 -- 3 term; 4 knowledge, "entry not below T, or equal to an earlier one"
 abbrev pub rows1to4 : List ℕ → List (ℕ → ℕ → Type 0)

@@ -94,12 +94,12 @@ module _ (s page page′ : List ℕ) (v : Verdict) (bytes : Bytes s) (call : Che
     run-wrong w = returned r (given.Done 0) ran .1 (call-keeps n accepted .wrong name w)
 
 -- ---- a call of `run` on s, a name and any program P that returned r
-module _ (s P : List ℕ) (name : ℕ) (r : AnswerGiven) (call : answerOf r ≡ runAnswer s name P) where
+module _ (s P : List ℕ) (name : ℕ) (r : AnswerGiven) (bytes : Bytes s) (call : answerOf r ≡ runAnswer s name P) where
   pub run-refuses : (n p : ℕ) → (r ≡ given.Refused n p) ↔ Refuses (runRows s P) n p
-  run-refuses n p = Iff·trans (returned r (given.Refused n p) call) (run-exact s P name (refused n p))
+  run-refuses n p = Iff·trans (returned r (given.Refused n p) call) (run-exact s P bytes name (refused n p))
 
   pub run-signals : (n : ℕ) → (r ≡ given.Done n) ↔ (Clear (runRows s P) × (n ≡ signal s name P))
-  run-signals n = Iff·trans (returned r (given.Done n) call) (run-exact s P name (done n))
+  run-signals n = Iff·trans (returned r (given.Done n) call) (run-exact s P bytes name (done n))
 
 -- ---- a call of `deducible` on s and the number t that returned r
 module _ (s : List ℕ) (t : ℕ) (r : AnswerGiven) (bytes : Bytes s) (call : answerOf r ≡ deducibleAnswer s t) where

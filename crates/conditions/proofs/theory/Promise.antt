@@ -29,7 +29,7 @@ page-accepted s page n e = rw e
 -- run takes the program
 run-program : (s : List ℕ) → Bytes s → WellFormed s → FiveConditions s → (name : ℕ) → runAnswer s name (bytesOf (program s)) ≡ done (signal s name (bytesOf (program s)))
 unfolding runAnswer
-run-program s b w c name = let r = passes-iff (tells-1-to-5 s) .1 (w .read) in rw (r, program-good s b w c)
+run-program s b w c name = let r = passes-iff (tells-1-to-5 s b) .1 (w .read) in rw (r, program-good s b w c)
 
 -- ---- Demand 3
 -- every acceptance keeps the promise

@@ -38,7 +38,7 @@ module _ (s : List ℕ) (b : Bytes s) where
   unfolding checks1to10
   tells-check room =
       tells-then (checks1to10 s) (failsIf (ltb room (programLength (steps s))) 11 (programLength (steps s)))
-      (tells-then (checks1to5 s) (andThen (checkSteps s) (checks8to10 s)) (tells-1-to-5 s) (λ k. let c = claimed-clear s b k in
+      (tells-then (checks1to5 s) (andThen (checkSteps s) (checks8to10 s)) (tells-1-to-5 s b) (λ k. let c = claimed-clear s b k in
       tells-then (checkSteps s) (checks8to10 s) (tells-6-and-7 c) (λ m. tells-8-to-10 c (all-fit s c m))))
       (λ _. tells-if (ltb room (programLength (steps s))) 11 (programLength (steps s)) (says-ltb room (programLength (steps s))))
 

@@ -80,9 +80,9 @@ pub deducible-exact : (s : List ℕ) → Bytes s → (n : ℕ) (a : Answer) → 
 unfolding deducibleAnswer
 deducible-exact s b n =
     answers-iff
-    (tells-then (checks1to4 s) (failsIf (not (ltb n (terms s))) 12 0) (tells-1-to-4 s) (λ _. tells-if _ 12 0 (says-not-ltb n (terms s))))
+    (tells-then (checks1to4 s) (failsIf (not (ltb n (terms s))) 12 0) (tells-1-to-4 s b) (λ _. tells-if _ 12 0 (says-not-ltb n (terms s))))
     (cond (isDeducible s (entryMarks s) n) 1 0) (DeducibleValue s n)
-    (λ c. let (x, y) = clear-split (rows1to4 s) (numbered 12 (λ p. (p ≡ 0) × (terms s ≤ n)) ∷ []) c in says-value _ (deducible-iff (listed s b (passes-iff (tells-1-to-4 s) .1 x)) n (below (y .0 12 0))))
+    (λ c. let (x, y) = clear-split (rows1to4 s) (numbered 12 (λ p. (p ≡ 0) × (terms s ≤ n)) ∷ []) c in says-value _ (deducible-iff (listed s b (passes-iff (tells-1-to-4 s b) .1 x)) n (below (y .0 12 0))))
   where
     below : (numbered 12 (λ p. (p ≡ 0) × (terms s ≤ n)) 12 0 → ⊥) → n < terms s
     below f = ⊎-elim (λ l. l) (λ l. absurd (f (refl, (refl, l)))) (lt-or-ge n (terms s))
@@ -103,14 +103,14 @@ module _ (s : List ℕ) (b : Bytes s) (n : ℕ) where
 -- that are marked. Marks of numbers that are not below T count for nothing.
 pub from-marks-exact : (s : List ℕ) → Bytes s → Clear (rows1to4 s) → (m : List Bool) (n : ℕ) → n < terms s →
     (isDeducible s m n ≡ true) ↔ Deducible (Marked s m) (term s n)
-from-marks-exact s b c m n l = deducible-from-iff (listed s b (passes-iff (tells-1-to-4 s) .1 c)) m n l
+from-marks-exact s b c m n l = deducible-from-iff (listed s b (passes-iff (tells-1-to-4 s b) .1 c)) m n l
 
 -- "The answer is the same for two submissions alike in terms and knowledge that both pass checks 1 to 4."
 pub same-deducible : (s s′ : List ℕ) → Bytes s → Bytes s′ → Clear (rows1to4 s) → Clear (rows1to4 s′) → Alike s s′ →
     (n : ℕ) → deducibleAnswer s n ≡ deducibleAnswer s′ n
 same-deducible s s′ b b′ c c′ a n =
-    let e = passes-iff (tells-1-to-4 s) .1 c in
-    let e′ = passes-iff (tells-1-to-4 s′) .1 c′ in
+    let e = passes-iff (tells-1-to-4 s b) .1 c in
+    let e′ = passes-iff (tells-1-to-4 s′ b′) .1 c′ in
     ⊎-elim
     (λ l. below-answer s n e l ∙ ap (λ x. done (cond x 1 0)) (same-answer (listed s b e) (listed s′ b′ e′) a n l)
     ∙ sym (below-answer s′ n e′ (omega (arith, a .same-terms))))

@@ -1,38 +1,26 @@
 -- Bodies that pass checks 14 and 2: what the checks say, and the bodies' lengths.
-use mathlib.Core.Path.{_≡_, refl, sym, _∙_}
-use mathlib.Core.Logic.{_↔_, inl, inr, ⊎-elim}
-use mathlib.Core.Bool.{Bool, false, not}
-use mathlib.Core.List.{List, [], _∷_, _++_}
-use Prim.Native.Nat.{ℕ, zero, suc, _+_, _*_, _/_, _%_, _≤_, _<_}
+use mathlib.Core.Path.{_≡_, refl}
+use mathlib.Core.Logic.{inl, inr, ⊎-elim}
+use mathlib.Core.Bool.{false, not}
+use mathlib.Core.List.{[], _∷_}
+use Prim.Native.Nat.{ℕ, _+_, _/_, _%_, _≤_, _<_}
 use native.Mathlib.Omega.{arith}
 use lib.ListN.{length, length-append}
 use lib.Dec.{eqb}
-use Rattle.base.specs.Answer.{numbered, Clear}
+use Rattle.base.specs.Answer.{Clear}
 use Rattle.base.specs.Computed.{any, passes}
 use Rattle.base.proofs.Order.{lt-or-ge}
 use Rattle.base.proofs.Says.{Says, says-eqb, says-not, any-false, not-not-false}
 use Rattle.base.proofs.RefusalLaws.{passes-iff}
-use Rattle.submission.specs.{Record.width, Record.startOf, Record.least, Record.most, Body.Bodies, Body.body, Body.records, Body.contents, Body.submissionOf, Check.row2, Computed.checkLimits}
-use Rattle.submission.proofs.theory.ReadingRows.{tells-limits}
+use Rattle.submission.specs.{Record.width, Record.startOf, Record.least, Record.most, Body.Bodies, Body.body, Body.records, Body.submissionOf, Check.row2, Computed.checkLimits}
+use Rattle.submission.proofs.theory.{ContentsMeant.each, ContentsMeant.contents-length, ReadingRows.tells-limits}
 use Rattle.form.specs.Write.{Ragged}
 use Rattle.form.specs.Computed.{ragged}
 use Rattle.form.specs.Code.{Whole}
 
-pub contents-length : (n : ℕ → ℕ) → length (contents n) ≡ 16
-unfolding contents
-contents-length n = refl
-
 pub submission-length : (b : Bodies) → length (submissionOf b) ≡ 16 + length (b .terms) + length (b .knowledge) + length (b .derivation) + length (b .claim)
 unfolding submissionOf
 submission-length b = simp (length-append, contents-length)
-
--- what holds of each of the four bodies
-pub each : (P : ℕ → Type 0) → P 0 → P 1 → P 2 → P 3 → (i : ℕ) → i < 4 → P i
-each P p q r s zero l = p
-each P p q r s (suc zero) l = q
-each P p q r s (suc (suc zero)) l = r
-each P p q r s (suc (suc (suc zero))) l = s
-each P p q r s (suc (suc (suc (suc i)))) l = absurd (omega arith)
 
 -- "a body that isn't whole records": one by one
 pub says-ragged : (b : Bodies) (i : ℕ) → i < 4 → Says (ragged b i) (Ragged b i)
@@ -54,7 +42,7 @@ within-limits {n} c i l =
 -- bodies that passed checks 14 and 2
 pub whole : (b : Bodies) → any (ragged b) 4 ≡ false → checkLimits (records b) ≡ passes → Whole b
 whole b e f =
-    let even : (i : ℕ) → i < 4 → length (body b i) % width i ≡ 0 = λ i l. says-eqb _ 0 .0 (not-not-false _ .0 (any-false (ragged b) 4 e i l)) in
+    let even : (i : ℕ) → i < 4 → length (body b i) % width i ≡ 0 = λ i l. says-eqb _ 0 .0 (not-not-false _ .0 (any-false (ragged b) 4 .0 e i l)) in
     let z0 : length (b .terms) % 3 ≡ 0 = even 0 (omega arith) in
     let z2 : length (b .derivation) % 4 ≡ 0 = even 2 (omega arith) in
     let z3 : length (b .claim) % 4 ≡ 0 = even 3 (omega arith) in
@@ -74,13 +62,20 @@ whole b e f =
       claim = omega arith;
     }
 
-pub first-start : (n : ℕ → ℕ) → startOf n 0 ≡ 16
-unfolding startOf
-first-start n = refl
+-- where four bodies start: each where the former ends; and where the last one ends
+pub record StartsAt (start : ℕ → ℕ) (b : Bodies) : Type 0 where
+  pub terms : start 0 ≡ 16
+  pub knowledge : start 1 ≡ 16 + length (b .terms)
+  pub steps : start 2 ≡ 16 + length (b .terms) + length (b .knowledge)
+  pub claim : start 3 ≡ 16 + length (b .terms) + length (b .knowledge) + length (b .derivation)
+  pub end : start 4 ≡ length (submissionOf b)
 
--- where the bodies start: each where the former ends
-pub starts : {b : Bodies} → Whole b →
-    (startOf (records b) 1 ≡ 16 + length (b .terms)) × (startOf (records b) 2 ≡ 16 + length (b .terms) + length (b .knowledge))
-    × (startOf (records b) 3 ≡ 16 + length (b .terms) + length (b .knowledge) + length (b .derivation))
+pub starts : {b : Bodies} → Whole b → StartsAt (startOf (records b)) b
 unfolding startOf
-starts w = (omega (arith, w .terms), omega (arith, w .terms), omega (arith, w .terms, w .steps))
+starts {b} w = record {
+  terms = refl;
+  knowledge = omega (arith, w .terms);
+  steps = omega (arith, w .terms);
+  claim = omega (arith, w .terms, w .steps);
+  end = omega (arith, submission-length b, w .terms, w .steps, w .claim);
+}

@@ -3,9 +3,9 @@ use mathlib.Core.Path.{_≡_, sym}
 use mathlib.Core.Logic.{_↔_}
 use Prim.Native.Nat.{ℕ}
 use lib.{Dec.ltb, ListN.length}
-use Rattle.base.specs.Answer.{Answer, done, Clear, Answers}
-use Rattle.base.specs.Computed.{any, passes, failsIf, andThen}
-use Rattle.base.proofs.{Says.says-ltb, Says.says-any, RefusalLaws.Tells, RefusalLaws.passes-iff, RefusalLaws.tells-if, RefusalLaws.tells-then, RefusalLaws.answers-iff, AnswerLaws.if-passes, AnswerLaws.then-passes, AnswerLaws.answered-done}
+use Rattle.base.specs.Answer.{Answer, done, Answers}
+use Rattle.base.specs.Computed.{any, failsIf, andThen}
+use Rattle.base.proofs.{Says.says-ltb, Says.says-any, RefusalLaws.Tells, RefusalLaws.tells-if, RefusalLaws.tells-then, RefusalLaws.answers-iff, AnswerLaws.if-passes, AnswerLaws.then-passes, AnswerLaws.answered-done}
 use Rattle.submission.specs.{Body.Bodies, Body.records, Body.submissionOf, Computed.checkLimits}
 use Rattle.submission.proofs.theory.ReadingRows.{tells-limits}
 use Rattle.form.specs.{Write.writeRows, Computed.ragged, Computed.writeAnswer, Code.Whole}

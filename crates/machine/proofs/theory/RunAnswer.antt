@@ -142,8 +142,8 @@ module _ (s P : List ℕ) (name : ℕ) {rd : Reading} (e : ReadingIs s (checks1t
 -- ---- Demand 1, run
 -- Run answers as rows 1 to 5, row 13 and the signal say, and nothing else: "For every program that run takes, the signal that it answers is this
 -- machine's."
-pub run-exact : (s P : List ℕ) (name : ℕ) (a : Given) → (runAnswer s name P ≡ a) ↔ Answers (runRows s P) (λ v. v ≡ signal s name P) a
+pub run-exact : (s P : List ℕ) → Bytes s → (name : ℕ) (a : Given) → (runAnswer s name P ≡ a) ↔ Answers (runRows s P) (λ v. v ≡ signal s name P) a
 unfolding runAnswer
-run-exact s P name =
-    answers-iff (tells-then (checks1to5 s) (failsIf (badProgram s P) 13 0) (tells-1-to-5 s) (λ _. tells-if (badProgram s P) 13 0 (refutes _ (program-iff s P))))
+run-exact s P b name =
+    answers-iff (tells-then (checks1to5 s) (failsIf (badProgram s P) 13 0) (tells-1-to-5 s b) (λ _. tells-if (badProgram s P) 13 0 (refutes _ (program-iff s P))))
     (signal s name P) (λ v. v ≡ signal s name P) (λ _ v. (sym, sym))
