@@ -1,4 +1,4 @@
--- Laws of putting texts into a buffer: nothing, one byte, one text after the other; and a whole text in a buffer that is long enough.
+-- Laws of putting bytes into a buffer: nothing, one byte, one text after the other; and a whole text in a buffer that is long enough.
 use mathlib.Core.Path.{_≡_, refl, sym, ap, _∙_}
 use mathlib.Core.Logic.{⊎-elim}
 use mathlib.Core.List.{List, [], _∷_, _++_}
@@ -85,12 +85,11 @@ pub copied-all : {a b : List ℕ} {k i : ℕ} (bytes : List ℕ) (n : ℕ) → C
 copied-all bytes n p l h = rw (le-antisymm h l) (p .is)
 
 -- and the place after them: the buffer has room for all, or for some
+pub puts-all : {a b : List ℕ} (k : ℕ) (bytes : List ℕ) → length bytes < length a - k → b ≡ sets a k (take (length bytes) bytes) → Puts a k bytes b (k + length bytes)
+puts-all {a} {b} k bytes h e = record { stored = e ∙ rw (take-all (length bytes) bytes (omega arith)); place = omega arith }
 
-pub put-all : {a b : List ℕ} (k : ℕ) (bytes : List ℕ) → length bytes < length a - k → b ≡ sets a k (take (length bytes) bytes) → Puts a k bytes b (k + length bytes)
-put-all {a} {b} k bytes h e = record { stored = e ∙ rw (take-all (length bytes) bytes (omega arith)); place = omega arith }
-
-pub put-some : {a b : List ℕ} (k : ℕ) (bytes : List ℕ) → k < length a → length a - k ≤ length bytes → b ≡ sets a k (take (length a - k) bytes) → Puts a k bytes b (length b)
-put-some {a} {b} k bytes l h e =
+pub puts-some : {a b : List ℕ} (k : ℕ) (bytes : List ℕ) → k < length a → length a - k ≤ length bytes → b ≡ sets a k (take (length a - k) bytes) → Puts a k bytes b (length b)
+puts-some {a} {b} k bytes l h e =
     let n = length a - k in
     let t = take n bytes in
     let m : length t ≡ n = length-take-le n bytes h in

@@ -7,12 +7,13 @@ use mathlib.Core.List.{List, [], _∷_, _++_}
 use mathlib.Core.Option.{Option, none, some}
 use Prim.Native.Nat.{ℕ, _<_, _≤_}
 use native.Mathlib.Omega.{arith}
+use lib.Dec.{ltb}
 use Rattle.base.specs.Words.{first}
-use Rattle.base.specs.Answer.{Answer, done, refused, numbered, First, Clear, Refuses, Answers}
-use Rattle.base.specs.Computed.{Check, passes, fails, failsAt, failsIf, andThen, answered}
+use Rattle.base.specs.Answer.{Answer, done, refused, numbered, row11, First, Clear, Refuses, Answers}
+use Rattle.base.specs.Computed.{Check, passes, fails, failsAt, failsIf, checkRoom, andThen, answered}
 use Rattle.base.proofs.Order.{lt-or-ge}
 use Rattle.base.proofs.First.{first-none, first-some}
-use Rattle.base.proofs.Says.{Says}
+use Rattle.base.proofs.Says.{Says, says-ltb}
 use Rattle.base.proofs.AnswerLaws.{fails-not-passes, answered-done, answered-refused}
 
 -- ---- at most one refusal
@@ -36,14 +37,14 @@ clear-refuses (r ∷ rows) n p c (inl a) = c .0 n p (a .holds)
 clear-refuses (r ∷ rows) n p c (inr (d, a)) = clear-refuses rows n p (c .1) a
 
 -- ---- some row holds where there is a refusal
-abbrev pub Held : List (ℕ → ℕ → Type 0) → ℕ → ℕ → Type 0
-Held [] n p = ⊥
-Held (Row ∷ later) n p = Row n p ⊎ Held later n p
+abbrev pub SomeHolds : List (ℕ → ℕ → Type 0) → ℕ → ℕ → Type 0
+SomeHolds [] n p = ⊥
+SomeHolds (Row ∷ later) n p = Row n p ⊎ SomeHolds later n p
 
-pub refuses-held : (rows : List (ℕ → ℕ → Type 0)) (n p : ℕ) → Refuses rows n p → Held rows n p
-refuses-held [] n p a = a
-refuses-held (r ∷ rows) n p (inl a) = inl (a .holds)
-refuses-held (r ∷ rows) n p (inr (c, a)) = inr (refuses-held rows n p a)
+pub refuses-some : (rows : List (ℕ → ℕ → Type 0)) (n p : ℕ) → Refuses rows n p → SomeHolds rows n p
+refuses-some [] n p a = a
+refuses-some (r ∷ rows) n p (inl a) = inl (a .holds)
+refuses-some (r ∷ rows) n p (inr (c, a)) = inr (refuses-some rows n p a)
 
 -- ---- checks that answer as the rows say
 pub record Tells (c : Check) (rows : List (ℕ → ℕ → Type 0)) : Type 0 where
@@ -113,6 +114,10 @@ tells-at {A} number t bound s = go (first t bound) refl
           inl (first-of (x, (omega arith, rw (← y) (s i l .0 h))) (λ m q (g, (b, w)) z. true≢false (sym (s q b .1 w) ∙ k q (omega arith))) (λ m (g, w). omega arith));
       clear = fails-not-passes;
     }
+
+-- check 11
+pub tells-room : (needed room : ℕ) → Tells (checkRoom needed room) (row11 needed room ∷ [])
+tells-room needed room = tells-if (ltb room needed) 11 needed (says-ltb room needed)
 
 -- ---- one check after the other; the later one may rest on what the earlier one found clear
 before-refuses : (rows later : List (ℕ → ℕ → Type 0)) (n p : ℕ) → Refuses rows n p → Refuses (rows ++ later) n p

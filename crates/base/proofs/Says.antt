@@ -3,11 +3,11 @@ use mathlib.Core.Path.{_≡_, refl, sym, _∙_}
 use mathlib.Core.Logic.{_↔_, _⊎_, inl, inr, ⊎-elim}
 use mathlib.Core.Bool.{Bool, true, false, _||_, _&&_, not, true≢false, false≢true}
 use mathlib.Core.Option.{Option, none, some}
-use Prim.Native.Nat.{ℕ, _<_, _≤_}
+use Prim.Native.Nat.{ℕ, zero, suc, _<_, _≤_}
 use lib.Dec.{eqb, ltb}
 use native.Mathlib.Omega.{arith}
 use borrow.Author.Tests.{ltb-true, ltb-false, eqb-true, lt-ltb, le-ltb, eq-eqb}
-use Rattle.base.specs.{Words.first, Computed.any, Code.isSome}
+use Rattle.base.specs.{Words.first, Words.firstFrom, Computed.any, Code.isSome}
 use Rattle.base.proofs.First.{first-none, first-some, passed-all, passed-not-any}
 
 abbrev pub Says : Bool → Type 0 → Type 0
@@ -102,3 +102,23 @@ any-false p n = (there, λ f. passed-not-any (record { within = omega arith; fai
     there : any p n ≡ false → (k : ℕ) → k < n → p k ≡ false
     there e k l =
         ⊎-elim (λ t. absurd (denies (any p n) (says-any p n (λ j m. says-true (p j))) .0 e (k, l, t))) (λ f. f) (true-or-false (p k))
+
+-- four places, one after the other
+pub any-four : (p : ℕ → Bool) → any p 4 ≡ (p 0 || (p 1 || (p 2 || p 3)))
+unfolding any first firstFrom
+any-four p = go (p 0) (p 1) (p 2) (p 3)
+  where
+    go : (a b c d : Bool) → isSome (elim a [ true ↦ some 0 | false ↦ elim b [ true ↦ some 1 | false ↦ elim c [ true ↦ some 2 | false ↦ elim d [ true ↦ some 3 | false ↦ none ] ] ] ]) ≡ (a || (b || (c || d)))
+    go true b c d = refl
+    go false true c d = refl
+    go false false true d = refl
+    go false false false true = refl
+    go false false false false = refl
+
+-- what holds at each of four places
+pub each-of-four : (P : ℕ → Type 0) → P 0 → P 1 → P 2 → P 3 → (i : ℕ) → i < 4 → P i
+each-of-four P p q r s zero l = p
+each-of-four P p q r s (suc zero) l = q
+each-of-four P p q r s (suc (suc zero)) l = r
+each-of-four P p q r s (suc (suc (suc zero))) l = s
+each-of-four P p q r s (suc (suc (suc (suc i)))) l = absurd (omega arith)

@@ -2,7 +2,8 @@
 use Rattle.base.specs.declared.Answer.the-variants as given
 use Rattle.base.specs.{declared.Answer.Answer as AnswerGiven, Words._≡_, Words._⊎_, Words.List, Words.[], Words._∷_, Words._++_, Words.ℕ, Words._+_, Words._-_, Words._<_, Words._≤_, Words.min, Words.length, Words.drop, Words.sets}
 
--- "An acceptance carries N"; deducible's yes and no are 1 and 0, and so is the signal. "Every refusal carries number and place."
+-- "An acceptance carries N"; deducible's yes and no are 1 and 0, and so is the signal; an acceptance that writes a page "carries their number
+-- unless another count is named", of the bytes written. "Every refusal carries number and place."
 pub data Answer : Type 0 where
   done : ℕ → Answer
   refused : ℕ → ℕ → Answer
@@ -30,6 +31,10 @@ pub record Puts (old : List ℕ) (i : ℕ) (bytes new : List ℕ) (j : ℕ) : Ty
 -- a row of the table: its number, and what it says of its place
 abbrev pub numbered : ℕ → (ℕ → Type 0) → ℕ → ℕ → Type 0
 numbered number When n p = (n ≡ number) × When p
+
+-- 11 page: the page, of room bytes, is shorter than what is written, place "length needed"
+abbrev pub row11 : ℕ → ℕ → ℕ → ℕ → Type 0
+row11 needed room = numbered 11 (λ p. (p ≡ needed) × (room < needed))
 
 -- a row, or rows "tried together, step by step", hold first at n and p: at the lowest place, and there with the lowest number
 pub record First (Row : ℕ → ℕ → Type 0) (n p : ℕ) : Type 0 where

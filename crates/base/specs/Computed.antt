@@ -1,6 +1,6 @@
 -- Checks and their order, computed: that a call's checks answer as the rows of the table of verdicts say is a theorem for each call
--- (`check-exact`, `deducible-exact`, `run-exact`).
-use Rattle.base.specs.{Words.Bool, Words.true, Words.false, Words.Option, Words.none, Words.some, Words.ℕ, Words.first, Answer.Answer, Answer.refused}
+-- (`check-exact`, `deducible-exact`, `run-exact`, `write-exact`).
+use Rattle.base.specs.{Words.Bool, Words.true, Words.false, Words.Option, Words.none, Words.some, Words.ℕ, Words.ltb, Words.first, Answer.Answer, Answer.refused}
 
 -- whether p holds at some number below n
 unfoldable pub any : (ℕ → Bool) → ℕ → Bool
@@ -19,6 +19,10 @@ failsAt number (some place) = fails number place
 abbrev pub failsIf : Bool → ℕ → ℕ → Check
 failsIf true number place = fails number place
 failsIf false number place = passes
+
+-- 11 page, where needed bytes are written to a page of room bytes
+abbrev pub checkRoom : ℕ → ℕ → Check
+checkRoom needed room = failsIf (ltb room needed) 11 needed
 
 -- the earlier check, and the later one where it passes
 abbrev pub andThen : Check → Check → Check

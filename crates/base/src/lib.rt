@@ -1,6 +1,6 @@
-// What every crate above uses: bytes and wide numbers, what a check and a call answer; in specs/ and proofs/ also the first failing place
-// of a scan and a list grown at its end.
-// Promises: every function is total, and its answer is what the definitions of specs/ give.
+// What every crate above uses: bytes and wide numbers, bytes put into a buffer, what a check and a call answer; in specs/ and proofs/ also
+// the first failing place of a scan and a list grown at its end.
+// Promises: every function is total, and its answer and the bytes that it stores are what the definitions of specs/ give.
 ghost use mathlib.Core.Path.{_≡_};
 ghost use mathlib.Core.List.{[], _∷_};
 ghost use Prim.Native.Nat.{_+_, _*_, _≤_, _<_};

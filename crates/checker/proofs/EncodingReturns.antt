@@ -6,10 +6,10 @@ use Rattle.base.specs.declared.Answer.{Answer as AnswerGiven}
 use Rattle.base.specs.declared.Answer.the-variants as given
 use Rattle.base.specs.Answer.{Answer, answerOf}
 use Rattle.submission.specs.Body.{Bodies}
-use Rattle.form.specs.Calls.{Written}
+use Rattle.form.specs.Calls.{FormWritten}
 use Rattle.conditions.specs.declared.Verdict.{Verdict}
 use Rattle.conditions.specs.Calls.{verdictAnswer, Checked}
-use Rattle.checker.specs.Calls.{encoded, Encoded, EncodedWritten}
+use Rattle.checker.specs.Calls.{encoded, Encoded, EncodedForm}
 
 pub encoded-done : {x : AnswerGiven} {n : ℕ} → x ≡ given.Done n → n ≡ encoded (answerOf x)
 encoded-done e = rw e
@@ -24,5 +24,5 @@ encoded-as a e g = g ∙ ap encoded e
 pub written-as : (s : List ℕ) {page page′ : List ℕ} (v : Verdict) {y : Answer} {r : ℕ} → Checked s page v page′ → y ≡ verdictAnswer v → r ≡ encoded y → Encoded s page r page′
 written-as s v h e g = record { answer = g ∙ ap encoded (e ∙ h .answer); bytes = h .bytes }
 
-pub form-as : (b : Bodies) {page page′ : List ℕ} (x : AnswerGiven) {r : ℕ} → Written b page x page′ → r ≡ encoded (answerOf x) → EncodedWritten b page r page′
+pub form-as : (b : Bodies) {page page′ : List ℕ} (x : AnswerGiven) {r : ℕ} → FormWritten b page x page′ → r ≡ encoded (answerOf x) → EncodedForm b page r page′
 form-as b x h g = record { answer = g ∙ ap encoded (h .answer); bytes = h .bytes }

@@ -16,8 +16,8 @@ abbrev pub Encoded : List ℕ → List ℕ → ℕ → List ℕ → Type 0
 Encoded s page r page′ = Writes (λ a. r ≡ encoded a) (checkAnswer s (length page)) (bytesOf (program s)) page page′
 
 -- `checker_write`: the number r is the answer, and the page is that of writing
-abbrev pub EncodedWritten : Bodies → List ℕ → ℕ → List ℕ → Type 0
-EncodedWritten b page r page′ = Writes (λ a. r ≡ encoded a) (writeAnswer b (length page)) (submissionOf b) page page′
+abbrev pub EncodedForm : Bodies → List ℕ → ℕ → List ℕ → Type 0
+EncodedForm b page r page′ = Writes (λ a. r ≡ encoded a) (writeAnswer b (length page)) (submissionOf b) page page′
 
 -- what the program `verdict` prints of a submission, "with a page of 388 bytes": document 01, after 'Marked examples'
 unfoldable pub verdictText : List ℕ → List ℕ

@@ -15,7 +15,7 @@ use Rattle.base.specs.declared.Stage.the-variants as stage
 use Rattle.base.specs.Answer.{Answer, done, refused}
 use Rattle.base.specs.Words.{byte}
 use Rattle.submission.specs.Record.{steps}
-use Rattle.base.specs.Computed.{Check, passes, fails, andThen, answered, failsIf}
+use Rattle.base.specs.Computed.{Check, passes, fails, andThen, answered, checkRoom}
 use Rattle.base.specs.Code.{checkOf}
 use Rattle.base.proofs.AnswerLaws.{if-passes}
 use Rattle.base.proofs.StageLaws.{bytes, stage-passes}
@@ -29,7 +29,6 @@ use Rattle.conditions.specs.declared.Verdict.the-variants.{Accepted, Ref
 use Rattle.conditions.specs.Calls.{verdictAnswer, Checked, program}
 use Rattle.conditions.specs.Code.{Founded, Acceptable}
 use Rattle.conditions.proofs.theory.ProgramRun.{program-bytes}
-use lib.Dec.{ltb}
 use Rattle.submission.specs.Computed.{checks1to5}
 use Rattle.conditions.specs.Computed.{checks1to10, checkAnswer, checks8to10}
 
@@ -38,19 +37,19 @@ module _ (s page : List ℕ) {n k : ℕ} (e : n ≡ steps s) (f : k ≡ programL
   needed : k ≡ programLength (steps s)
   needed = f ∙ ap programLength e
 
-  pub page-short : length page < k → fails 11 k ≡ failsIf (ltb (length page) (programLength (steps s))) 11 (programLength (steps s))
+  pub page-short : length page < k → fails 11 k ≡ checkRoom (programLength (steps s)) (length page)
   page-short l = let m : length page < programLength (steps s) = rw (← needed) l in rw (lt-ltb _ _ m, needed)
 
-  pub page-enough : k ≤ length page → passes ≡ failsIf (ltb (length page) (programLength (steps s))) 11 (programLength (steps s))
+  pub page-enough : k ≤ length page → passes ≡ checkRoom (programLength (steps s)) (length page)
   page-enough l = let m : programLength (steps s) ≤ length page = rw (← needed) l in rw (le-ltb _ _ m)
 
-pub page-room : (s page : List ℕ) {u : Stage} → checkOf u ≡ failsIf (ltb (length page) (programLength (steps s))) 11 (programLength (steps s)) → u ≡ stage.Passed → programLength (steps s) ≤ length page
+pub page-room : (s page : List ℕ) {u : Stage} → checkOf u ≡ checkRoom (programLength (steps s)) (length page) → u ≡ stage.Passed → programLength (steps s) ≤ length page
 page-room s page e q = ltb-false _ _ (if-passes _ 11 (programLength (steps s)) .0 (stage-passes _ e q))
 
 -- ---- the answer and the page where every check is known
 module _ (s page : List ℕ) where
   all : Check
-  all = andThen (checks1to10 s) (failsIf (ltb (length page) (programLength (steps s))) 11 (programLength (steps s)))
+  all = andThen (checks1to10 s) (checkRoom (programLength (steps s)) (length page))
 
   refused-out : (number place : ℕ) (v : Verdict) → all ≡ fails number place → verdictAnswer v ≡ refused number place → Checked s page v page
   unfolding all checkAnswer
@@ -114,7 +113,7 @@ module _ (s : List ℕ) {r : Reading} (reading : ReadingIs s (checks1to5 s) r) w
             met-acceptable f = record { bytes = bytes s f; passed = met-passes }
 
 -- ---- a submission that passed checks 1 to 10
-module _ {s : List ℕ} (h : Acceptable s) (page : List ℕ) {u : Stage} (room : checkOf u ≡ failsIf (ltb (length page) (programLength (steps s))) 11 (programLength (steps s))) where
+module _ {s : List ℕ} (h : Acceptable s) (page : List ℕ) {u : Stage} (room : checkOf u ≡ checkRoom (programLength (steps s)) (length page)) where
   pub page-out : (n : ℕ) {a b : ℕ} (v : Verdict) → u ≡ stage.Refused a b → verdictAnswer v ≡ answered (checkOf u) (done n) → Checked s page v page
   unfolding all
   page-out n {a} {b} v q f = refused-out s page a b v (rw (h .passed, said a b room q)) (of-refusal n a b f q)

@@ -9,7 +9,7 @@ use Rattle.derivation.specs.Computed.{isKnown, checkSteps}
 use Rattle.deduction.specs.Computed.{entryMarks, isDeducible}
 use Rattle.program.specs.Program.{programLength}
 use Rattle.machine.specs.Run.{guessed}
-use Rattle.base.specs.{Words.ltb, Words.first, Answer.Answer, Answer.done, Computed.Check, Computed.failsAt, Computed.failsIf, Computed.andThen, Computed.answered}
+use Rattle.base.specs.{Words.first, Answer.Answer, Answer.done, Computed.Check, Computed.failsAt, Computed.failsIf, Computed.checkRoom, Computed.andThen, Computed.answered}
 
 -- condition 3 is broken: every premise of the verifying step is deducible from the knowledge, in which the guess does not count
 unfoldable pub reachable : List ℕ → Bool
@@ -65,7 +65,7 @@ checks1to10 s = andThen (checks1to5 s) (andThen (checkSteps s) (checks8to10 s))
 -- the answer of checking a submission with a page of this length; 11 page: "page under 3N+4 bytes", place "length needed"
 unfoldable pub checkAnswer : List ℕ → ℕ → Answer
 checkAnswer s room =
-    answered (andThen (checks1to10 s) (failsIf (ltb room (programLength (steps s))) 11 (programLength (steps s)))) (done (steps s))
+    answered (andThen (checks1to10 s) (checkRoom (programLength (steps s)) room)) (done (steps s))
 
 -- a wrong guess, as a test (`says-wrong`)
 unfoldable pub isWrongGuess : List ℕ → ℕ → Bool

@@ -1,5 +1,5 @@
 -- The five conditions, and the rows that checking tries, as propositions about terms: document 01, 'The five conditions' and 'Verdicts'.
-use Rattle.base.specs.{Words._≡_, Words._⊎_, Words._↔_, Words.List, Words.[], Words._∷_, Words._++_, Words.Option, Words.none, Words.some, Words.ℕ, Words._<_, Answer.numbered, Answer.Clear}
+use Rattle.base.specs.{Words._≡_, Words._⊎_, Words._↔_, Words.List, Words.[], Words._∷_, Words._++_, Words.Option, Words.none, Words.some, Words.ℕ, Words._<_, Answer.numbered, Answer.row11, Answer.Clear}
 use Rattle.term.specs.{Term.Term, Term.isKey, Term.inverse, Step.Deducible, Step.Undoes}
 use Rattle.submission.specs.{Record.steps, Record.guess, Record.verifying, Record.wayAt, Record.companion, Record.term, Record.InKnowledge, Check.Way, Check.another-step, Check.at-start, Check.inverse-key, Check.wayOf, Check.rows1to5}
 use Rattle.derivation.specs.Step.{rule, firstPremise, secondPremise, concluded, Premise, StepFits, Known, rows6and7}
@@ -48,5 +48,5 @@ checkRows s room =
     ∷ numbered 8 (λ p. (p ≡ verifying s) × ((x : Term) → Premise s (verifying s) x → Deducible (InKnowledge s) x))
     ∷ numbered 9 (λ p. (p ≡ verifying s) × (SecondWay s (wayOf (wayAt s)) → ⊥))
     ∷ numbered 10 (λ i. (i < steps s) × Undone s i)
-    ∷ numbered 11 (λ p. (p ≡ programLength (steps s)) × (room < programLength (steps s)))
+    ∷ row11 (programLength (steps s)) room
     ∷ []

@@ -18,9 +18,8 @@ ghost use Rattle.conditions.specs.Code.{Acceptable};
 ghost use Rattle.base.specs.Answer.{done, answerOf};
 ghost use Rattle.base.specs.Code.{checkOf};
 ghost use Rattle.conditions.specs.Calls.{verdictAnswer, Checked};
-ghost use lib.Dec.{ltb};
 ghost use Rattle.program.specs.Program.{programLength};
-ghost use Rattle.base.specs.Computed.{answered, failsIf};
+ghost use Rattle.base.specs.Computed.{answered, checkRoom};
 
 // An acceptance carries the count of steps, a refusal its number and place.
 pub enum Verdict {
@@ -50,7 +49,7 @@ pub fn answer_of(verdict: Verdict) -> Answer
 
 // Check 11.
 fn check_page(s: &[u8], page: &[u8]) -> Stage
-    ensures { λ r. ⌜ checkOf r ≡ failsIf (ltb (length (now (page .entry))) (programLength (steps (now (s .entry))))) 11 (programLength (steps (now (s .entry)))) ⌝ }
+    ensures { λ r. ⌜ checkOf r ≡ checkRoom (programLength (steps (now (s .entry)))) (length (now (page .entry))) ⌝ }
 {
     let needed = program::program_length(submission::steps(s));
     if page.len() < needed as usize {

@@ -32,7 +32,7 @@ pub struct Step {
 pub fn step_at(s: &[u8], i: u8) -> Step
     ensures { λ r. ⌜ IsStep (now (s .entry)) i r ⌝ }
 {
-    let at = submission::derivation_start(s) + 4 * base::wide(i);
+    let at = submission::derivation_start(s) + submission::STEP_WIDTH * base::wide(i);
     Step {
         rule: base::byte(s, at),
         p: base::byte(s, at + 1),

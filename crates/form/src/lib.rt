@@ -6,6 +6,7 @@ use base::answered_by;
 use base::put;
 use base::put_bytes;
 use submission::CLAIM_WIDTH;
+use submission::CONTENTS_SIZE;
 use submission::ENTRY_WIDTH;
 use submission::STEP_WIDTH;
 use submission::TERM_WIDTH;
@@ -17,8 +18,8 @@ ghost use Rattle.base.specs.Code.{checkOf};
 ghost use Rattle.base.specs.Computed.{any, failsIf};
 ghost use Rattle.submission.specs.Body.{bodies, records, contents, submissionOf};
 ghost use Rattle.form.specs.Computed.{ragged};
-ghost use Rattle.form.specs.Code.{Whole};
-ghost use Rattle.form.specs.Calls.{Written};
+ghost use Rattle.form.specs.Code.{Writable};
+ghost use Rattle.form.specs.Calls.{FormWritten};
 
 // ---- Check 14, ragged.
 
@@ -53,7 +54,7 @@ fn check_whole(terms: &[u8], knowledge: &[u8], derivation: &[u8], claim: &[u8]) 
 // ---- The submission's bytes.
 
 // An entry of the contents: a letter, a one-byte count, a two-byte start, high byte first.
-fn put_entry(page: &mut [u8], at: usize, letter: u8, count: usize, start: usize) -> usize
+fn put_contents_entry(page: &mut [u8], at: usize, letter: u8, count: usize, start: usize) -> usize
     requires { ⌜ count < 256 ⌝ }
     requires { ⌜ start < 65536 ⌝ }
     ensures { λ r. ⌜ Puts (now (page .entry)) at (letter ∷ count ∷ start / 256 ∷ start % 256 ∷ []) (now (page .exit)) r ⌝ }
@@ -72,17 +73,29 @@ fn put_contents(
     claim: &[u8],
     page: &mut [u8],
 ) -> usize
-    requires { ⌜ Whole (bodies (now terms) (now knowledge) (now derivation) (now claim)) ⌝ }
+    requires { ⌜ Writable (bodies (now terms) (now knowledge) (now derivation) (now claim)) ⌝ }
     ensures { λ r. ⌜ Puts (now (page .entry)) 0 (contents (records (bodies (now (terms .entry)) (now (knowledge .entry)) (now (derivation .entry)) (now (claim .entry))))) (now (page .exit)) r ⌝ }
 {
     let letters = b"TKDV";
-    let k = 16 + terms.len();
-    let d = k + knowledge.len();
-    let v = d + derivation.len();
-    let at = put_entry(page, 0, letters[0], terms.len() / TERM_WIDTH, 16);
-    let at = put_entry(page, at, letters[1], knowledge.len() / ENTRY_WIDTH, k);
-    let at = put_entry(page, at, letters[2], derivation.len() / STEP_WIDTH, d);
-    put_entry(page, at, letters[3], claim.len() / CLAIM_WIDTH, v)
+    let knowledge_start = CONTENTS_SIZE + terms.len();
+    let derivation_start = knowledge_start + knowledge.len();
+    let claim_start = derivation_start + derivation.len();
+    let at = put_contents_entry(page, 0, letters[0], terms.len() / TERM_WIDTH, CONTENTS_SIZE);
+    let at = put_contents_entry(
+        page,
+        at,
+        letters[1],
+        knowledge.len() / ENTRY_WIDTH,
+        knowledge_start,
+    );
+    let at = put_contents_entry(
+        page,
+        at,
+        letters[2],
+        derivation.len() / STEP_WIDTH,
+        derivation_start,
+    );
+    put_contents_entry(page, at, letters[3], claim.len() / CLAIM_WIDTH, claim_start)
 }
 
 // The contents, then the bodies.
@@ -93,7 +106,7 @@ fn put_submission(
     claim: &[u8],
     page: &mut [u8],
 ) -> usize
-    requires { ⌜ Whole (bodies (now terms) (now knowledge) (now derivation) (now claim)) ⌝ }
+    requires { ⌜ Writable (bodies (now terms) (now knowledge) (now derivation) (now claim)) ⌝ }
     ensures { λ r. ⌜ Puts (now (page .entry)) 0 (submissionOf (bodies (now (terms .entry)) (now (knowledge .entry)) (now (derivation .entry)) (now (claim .entry)))) (now (page .exit)) r ⌝ }
 {
     let at = put_contents(terms, knowledge, derivation, claim, page);
@@ -106,17 +119,17 @@ fn put_submission(
 // ---- The call.
 
 // Writes whole bodies within their limits, where the page has room: check 11.
-fn write_whole(
+fn write_checked(
     terms: &[u8],
     knowledge: &[u8],
     derivation: &[u8],
     claim: &[u8],
     page: &mut [u8],
 ) -> Answer
-    requires { ⌜ Whole (bodies (now terms) (now knowledge) (now derivation) (now claim)) ⌝ }
-    ensures { λ r. ⌜ Written (bodies (now (terms .entry)) (now (knowledge .entry)) (now (derivation .entry)) (now (claim .entry))) (now (page .entry)) r (now (page .exit)) ⌝ }
+    requires { ⌜ Writable (bodies (now terms) (now knowledge) (now derivation) (now claim)) ⌝ }
+    ensures { λ r. ⌜ FormWritten (bodies (now (terms .entry)) (now (knowledge .entry)) (now (derivation .entry)) (now (claim .entry))) (now (page .entry)) r (now (page .exit)) ⌝ }
 {
-    let length = 16 + terms.len() + knowledge.len() + derivation.len() + claim.len();
+    let length = CONTENTS_SIZE + terms.len() + knowledge.len() + derivation.len() + claim.len();
     if page.len() < length {
         return Answer::Refused {
             number: 11,
@@ -135,7 +148,7 @@ pub fn write(
     claim: &[u8],
     page: &mut [u8],
 ) -> Answer
-    ensures { λ r. ⌜ Written (bodies (now (terms .entry)) (now (knowledge .entry)) (now (derivation .entry)) (now (claim .entry))) (now (page .entry)) r (now (page .exit)) ⌝ }
+    ensures { λ r. ⌜ FormWritten (bodies (now (terms .entry)) (now (knowledge .entry)) (now (derivation .entry)) (now (claim .entry))) (now (page .entry)) r (now (page .exit)) ⌝ }
 {
     let whole = check_whole(terms, knowledge, derivation, claim);
     let Stage::Passed = whole else {
@@ -151,5 +164,5 @@ pub fn write(
     let Stage::Passed = limits else {
         return answered_by(limits, 0);
     };
-    write_whole(terms, knowledge, derivation, claim, page)
+    write_checked(terms, knowledge, derivation, claim, page)
 }

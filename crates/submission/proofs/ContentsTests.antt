@@ -1,13 +1,12 @@
 -- Checks 1 and 2, one test at a time: what a byte or a word that was read says of an entry of the contents.
-use mathlib.Core.Path.{_≡_, refl}
-use mathlib.Core.Bool.{Bool, true, false, _||_, not, or-true}
+use mathlib.Core.Path.{_≡_}
+use mathlib.Core.Bool.{true, false, not, or-true}
 use mathlib.Core.List.{List, [], _∷_}
 use Prim.Native.Nat.{ℕ, _*_, _<_, _≤_}
 use lib.Dec.{eqb}
 use lib.ListN.{getD}
 use borrow.Author.Tests.{eq-eqb, ne-eqb, lt-ltb, le-ltb}
-use mathlib.Core.Option.{none, some}
-use Rattle.base.specs.{Computed.any, Computed.Check, Words.first, Words.firstFrom, Code.isSome}
+use Rattle.base.specs.{Computed.Check, Words.first, Words.firstFrom}
 use Rattle.base.specs.Words.{byte}
 use Rattle.submission.specs.Record.{letter, count, least, most}
 use Rattle.submission.specs.Computed.{badCount, checkLimits}
@@ -28,18 +27,6 @@ module _ (n : ℕ → ℕ) (i : ℕ) where
 
   pub within : least i ≤ n i → n i ≤ most i → badCount n i ≡ false
   within h l = rw (le-ltb _ _ h, le-ltb _ _ l)
-
--- "The first start is 16": four starts, one after the other
-pub any-four : (p : ℕ → Bool) → any p 4 ≡ (p 0 || (p 1 || (p 2 || p 3)))
-unfolding any first firstFrom
-any-four p = go (p 0) (p 1) (p 2) (p 3)
-  where
-    go : (a b c d : Bool) → isSome (elim a [ true ↦ some 0 | false ↦ elim b [ true ↦ some 1 | false ↦ elim c [ true ↦ some 2 | false ↦ elim d [ true ↦ some 3 | false ↦ none ] ] ] ]) ≡ (a || (b || (c || d)))
-    go true b c d = refl
-    go false true c d = refl
-    go false false true d = refl
-    go false false false true = refl
-    go false false false false = refl
 
 -- four counts that were read, each byte widened
 pub counts-read : (s : List ℕ) {k : Check} {a b c d t e n v : ℕ} → a ≡ count s 0 → b ≡ count s 1 → c ≡ count s 2 → d ≡ count s 3 →

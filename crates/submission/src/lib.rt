@@ -21,6 +21,9 @@ ghost use Rattle.base.specs.Computed.{any, failsAt, failsIf};
 ghost use Rattle.base.specs.Code.{checkOf};
 ghost use Rattle.submission.specs.Code.{Starts, IsTerm, wayIs, letterIs, rangeIs, rowIs, IsClaimBytes, IsClaim, readingCheck, ReadingIs, Chained};
 
+// Where the first body starts.
+pub const CONTENTS_SIZE: usize = 16;
+
 // The bytes of one record of each body.
 pub const TERM_WIDTH: usize = 3;
 
@@ -51,7 +54,7 @@ pub fn steps(s: &[u8]) -> u8
 pub fn knowledge_start(s: &[u8]) -> usize
     ensures { λ r. ⌜ Starts (now (s .entry)) 1 r ⌝ }
 {
-    16 + TERM_WIDTH * wide(byte(s, 1))
+    CONTENTS_SIZE + TERM_WIDTH * wide(byte(s, 1))
 }
 
 pub fn derivation_start(s: &[u8]) -> usize
@@ -83,7 +86,7 @@ pub struct Term {
 pub fn term_at(s: &[u8], i: u8) -> Term
     ensures { λ r. ⌜ IsTerm (now (s .entry)) i r ⌝ }
 {
-    let at = 16 + TERM_WIDTH * wide(i);
+    let at = CONTENTS_SIZE + TERM_WIDTH * wide(i);
     Term {
         kind: byte(s, at),
         x: byte(s, at + 1),
@@ -154,7 +157,7 @@ fn is_letter_wrong(s: &[u8]) -> bool
 fn is_start_wrong(s: &[u8]) -> bool
     ensures { λ r. ⌜ r ≡ any (λ i. not (eqb (byteAt (now (s .entry)) (4 * i + 2) * 256 + byteAt (now (s .entry)) (4 * i + 3)) (start (now (s .entry)) i))) 4 ⌝ }
 {
-    if word(s, 2) != 16 {
+    if word(s, 2) != CONTENTS_SIZE {
         return true;
     }
     if word(s, 6) != knowledge_start(s) {
@@ -169,7 +172,7 @@ fn is_start_wrong(s: &[u8]) -> bool
 fn are_contents_wrong(s: &[u8]) -> bool
     ensures { λ r. ⌜ r ≡ badContents (now (s .entry)) ⌝ }
 {
-    if s.len() < 16 {
+    if s.len() < CONTENTS_SIZE {
         return true;
     }
     if is_letter_wrong(s) {

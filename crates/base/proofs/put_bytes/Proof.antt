@@ -1,6 +1,6 @@
 -- The buffer was full before, or has room for all bytes, or for some.
 use borrow.Author.Needs.{needs}
-use Rattle.base.proofs.PutLaws.{puts-full, put-all, put-some}
+use Rattle.base.proofs.PutLaws.{puts-full, puts-all, puts-some}
 use Rattle.base.proofs.put_bytes.Statement.{statement}
 use Rattle.base.proofs.put_bytes.Tie as tie
 
@@ -20,7 +20,7 @@ same-length : tie.Need-same-length
 same-length c = search needs
 
 returns-2 : tie.Need-returns-2
-returns-2 c = search (put-all, needs)
+returns-2 c = search (puts-all, needs)
 
 copy-requires-2 : tie.Need-copy-requires-2
 copy-requires-2 c κs = search needs
@@ -29,7 +29,7 @@ same-length-2 : tie.Need-same-length-2
 same-length-2 c = search needs
 
 returns-3 : tie.Need-returns-3
-returns-3 c = search (put-some, needs)
+returns-3 c = search (puts-some, needs)
 
 pub put-bytes-spec : {M : Type 1} → statement M
 put-bytes-spec =

@@ -11,11 +11,11 @@ use Rattle.base.specs.declared.Answer.the-variants as given
 use Rattle.base.specs.Answer.{Answer, done, refused, pageAfter, Clear, Refuses, answerOf}
 use Rattle.base.specs.Words.{Bytes}
 use Rattle.base.proofs.AnswerLaws.{refused-page}
-use Rattle.base.proofs.RefusalLaws.{Held, refuses-held}
+use Rattle.base.proofs.RefusalLaws.{SomeHolds, refuses-some}
 use Rattle.term.specs.Step.{Deducible}
 use Rattle.submission.specs.Record.{steps, guess, nameAt, term, InKnowledge}
 use Rattle.submission.specs.{Body.Bodies, Body.bodiesOf, Body.submissionOf, Check.rows1and2}
-use Rattle.form.specs.{Write.writeRows, Write.Reads, Computed.writeAnswer, Calls.Written}
+use Rattle.form.specs.{Write.writeRows, Write.ReadsAs, Computed.writeAnswer, Calls.FormWritten}
 use Rattle.form.proofs.theory.{WriteAnswer.write-exact, RoundTrip.form-promise}
 use Rattle.deduction.specs.{Deduce.deducibleRows, Computed.deducibleAnswer}
 use Rattle.deduction.proofs.theory.DeducibleAnswer.{deducible-exact, yes-exact, no-exact}
@@ -53,7 +53,7 @@ returned : (r u : AnswerGiven) {a : Answer} → answerOf r ≡ a → (r ≡ u) �
 returned r u c = (λ e. sym c ∙ ap answerOf e, λ e. same-answer r u (c ∙ e))
 
 -- where rows 1 and 2 do not hold, the row that does has a higher number
-from-3 : (s : List ℕ) (room m p : ℕ) → Clear (rows1and2 s) → Held (checkRows s room) m p → 3 ≤ m
+from-3 : (s : List ℕ) (room m p : ℕ) → Clear (rows1and2 s) → SomeHolds (checkRows s room) m p → 3 ≤ m
 from-3 s room m p c (inl h) = absurd (c .0 m p h)
 from-3 s room m p c (inr (inl h)) = absurd (c .1 .0 m p h)
 from-3 s room m p c (inr (inr (inl (e, _)))) = omega arith
@@ -113,7 +113,7 @@ module _ (s : List ℕ) (t : ℕ) (r : AnswerGiven) (bytes : Bytes s) (call : an
   call-no = Iff·trans (returned r (given.Done 0) call) (no-exact s bytes t)
 
 -- ---- a call of `write` on the bodies b and page that returned r and left page′
-module _ (b : Bodies) (page page′ : List ℕ) (r : AnswerGiven) (call : Written b page r page′) where
+module _ (b : Bodies) (page page′ : List ℕ) (r : AnswerGiven) (call : FormWritten b page r page′) where
   pub write-refuses : (n p : ℕ) → (r ≡ given.Refused n p) ↔ Refuses (writeRows b (length page)) n p
   write-refuses n p = Iff·trans (returned r (given.Refused n p) (call .answer)) (write-exact b (length page) (refused n p))
 
@@ -135,20 +135,20 @@ module _ (b : Bodies) (page page′ : List ℕ) (r : AnswerGiven) (call : Writte
         (rw (f, e, take-append-seam (submissionOf b) (drop (length (submissionOf b)) page)), rw (f, e, drop-append-seam (submissionOf b) (drop (length (submissionOf b)) page)))
 
     -- reading them gives the bodies again;
-    pub write-reads : Reads (take n page′) b
-    write-reads = subst (λ s. Reads s b) (sym (write-stands .0)) (form-promise .readAgain b (length page) n answered)
+    pub write-reads : ReadsAs (take n page′) b
+    write-reads = subst (λ s. ReadsAs s b) (sym (write-stands .0)) (form-promise .readAgain b (length page) n answered)
 
     -- and a call of `check` on them answers what checking the submission does, and refuses with no number below 3
-    module _ (sheet sheet′ : List ℕ) (v : Verdict) (bytes : Bytes (take n page′)) (checked : Checked (take n page′) sheet v sheet′) where
+    module _ (sheet sheet′ : List ℕ) (v : Verdict) (checked : Checked (take n page′) sheet v sheet′) where
       pub written-verdict : verdictAnswer v ≡ checkAnswer (submissionOf b) (length sheet)
       written-verdict = checked .answer ∙ ap (λ s. checkAnswer s (length sheet)) (write-stands .0)
 
-      pub written-passes : (m p : ℕ) → v ≡ Refused m p → 3 ≤ m
-      written-passes m p e =
-          from-3 (take n page′) (length sheet) m p (write-reads .passes) (refuses-held (checkRows (take n page′) (length sheet)) m p (call-refuses (take n page′) sheet sheet′ v bytes checked m p .0 e))
+      pub written-passes : Bytes (take n page′) → (m p : ℕ) → v ≡ Refused m p → 3 ≤ m
+      written-passes bytes m p e =
+          from-3 (take n page′) (length sheet) m p (write-reads .passes) (refuses-some (checkRows (take n page′) (length sheet)) m p (call-refuses (take n page′) sheet sheet′ v bytes checked m p .0 e))
 
 -- ---- a call of `write` on the bodies of a well-formed submission, with page enough
-pub write-again : (s page page′ : List ℕ) (r : AnswerGiven) → Bytes s → WellFormed s → length s ≤ length page → Written (bodiesOf s) page r page′ → (r ≡ given.Done (length s)) × (take (length s) page′ ≡ s)
+pub write-again : (s page page′ : List ℕ) (r : AnswerGiven) → Bytes s → WellFormed s → length s ≤ length page → FormWritten (bodiesOf s) page r page′ → (r ≡ given.Done (length s)) × (take (length s) page′ ≡ s)
 write-again s page page′ r bytes w l call =
     let first-two : Clear (rows1and2 s) = (w .read .0, (w .read .1 .0, tt)) in
     let done-is = returned r (given.Done (length s)) (call .answer) .1 (form-promise .notRefused s bytes first-two (length page) l) in

@@ -4,12 +4,11 @@ use mathlib.Core.Logic.{_↔_}
 use mathlib.Core.Bool.{not}
 use mathlib.Core.List.{List, [], _∷_}
 use Prim.Native.Nat.{ℕ, _<_}
-use lib.Dec.{ltb}
 use Rattle.base.specs.Words.{Bytes, first}
 use Rattle.base.specs.Answer.{Answer, numbered, Clear, Answers}
-use Rattle.base.specs.Computed.{failsIf, failsAt, andThen}
-use Rattle.base.proofs.Says.{says-ltb, says-not}
-use Rattle.base.proofs.RefusalLaws.{Tells, passes-iff, tells-if, tells-at, tells-then, answers-iff}
+use Rattle.base.specs.Computed.{failsIf, failsAt, checkRoom, andThen}
+use Rattle.base.proofs.Says.{says-not}
+use Rattle.base.proofs.RefusalLaws.{Tells, passes-iff, tells-if, tells-at, tells-room, tells-then, answers-iff}
 use Rattle.term.specs.{Term.Term, Step.Deducible}
 use Rattle.submission.specs.{Record.steps, Record.verifying, Record.wayAt, Record.InKnowledge, Check.wayOf, Computed.checks1to5}
 use Rattle.submission.proofs.theory.{ListedTerms.Claimed, ReadingRows.tells-1-to-5, ReadingRows.claimed-clear}
@@ -34,13 +33,13 @@ module _ (s : List ℕ) (b : Bytes s) where
       (tells-if (not (hasSecondWay s (wayOf (wayAt s)))) 9 (verifying s) (says-not _ (second-way-iff c sound))) (λ _.
       tells-at 10 (undone s) (steps s) (says-undone c sound)))
 
-  tells-check : (room : ℕ) → Tells (andThen (checks1to10 s) (failsIf (ltb room (programLength (steps s))) 11 (programLength (steps s)))) (checkRows s room)
+  tells-check : (room : ℕ) → Tells (andThen (checks1to10 s) (checkRoom (programLength (steps s)) room)) (checkRows s room)
   unfolding checks1to10
   tells-check room =
-      tells-then (checks1to10 s) (failsIf (ltb room (programLength (steps s))) 11 (programLength (steps s)))
+      tells-then (checks1to10 s) (checkRoom (programLength (steps s)) room)
       (tells-then (checks1to5 s) (andThen (checkSteps s) (checks8to10 s)) (tells-1-to-5 s b) (λ k. let c = claimed-clear s b k in
       tells-then (checkSteps s) (checks8to10 s) (tells-6-and-7 c) (λ m. tells-8-to-10 c (all-fit s c m))))
-      (λ _. tells-if (ltb room (programLength (steps s))) 11 (programLength (steps s)) (says-ltb room (programLength (steps s))))
+      (λ _. tells-room (programLength (steps s)) room)
 
 -- Checking refuses with n at p exactly when row n holds at p and no row holds that the order puts before it; else it is done with N.
 pub check-exact : (s : List ℕ) → Bytes s → (room : ℕ) (a : Answer) → (checkAnswer s room ≡ a) ↔ Answers (checkRows s room) (λ n. n ≡ steps s) a

@@ -2,7 +2,7 @@
 use Rattle.base.proofs.TestChains.{chain}
 use Rattle.base.proofs.BoolLaws.{not-of-true, not-of-false}
 use borrow.Author.Tests.{eq-eqb, ne-eqb}
-use Rattle.submission.proofs.ContentsTests.{any-four}
+use Rattle.base.proofs.Says.{any-four}
 use Rattle.form.proofs.is_ragged.Statement.{statement}
 use Rattle.form.proofs.is_ragged.Tie as tie
 

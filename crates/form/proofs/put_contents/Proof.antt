@@ -4,38 +4,38 @@ use borrow.Author.Needs.{needs}
 use Rattle.form.proofs.put_contents.Statement.{statement}
 use Rattle.form.proofs.put_contents.Tie as tie
 
-add-k : tie.Need-add-k
-add-k c = search needs
+add-knowledge-start : tie.Need-add-knowledge-start
+add-knowledge-start c = search needs
 
-add-d : tie.Need-add-d
-add-d c = search needs
+add-derivation-start : tie.Need-add-derivation-start
+add-derivation-start c = search needs
 
-add-v : tie.Need-add-v
-add-v c = search needs
+add-claim-start : tie.Need-add-claim-start
+add-claim-start c = search needs
 
-element-copy-out-put-entry : tie.Need-element-copy-out-put-entry
-element-copy-out-put-entry c = search needs
+element-copy-out-put-contents-entry : tie.Need-element-copy-out-put-contents-entry
+element-copy-out-put-contents-entry c = search needs
 
-put-entry-requires : tie.Need-put-entry-requires
-put-entry-requires c κs = search needs
+put-contents-entry-requires : tie.Need-put-contents-entry-requires
+put-contents-entry-requires c κs = search needs
 
-element-copy-out-put-entry-2 : tie.Need-element-copy-out-put-entry-2
-element-copy-out-put-entry-2 c = search needs
+element-copy-out-put-contents-entry-2 : tie.Need-element-copy-out-put-contents-entry-2
+element-copy-out-put-contents-entry-2 c = search needs
 
-put-entry-requires-2 : tie.Need-put-entry-requires-2
-put-entry-requires-2 c κs = search needs
+put-contents-entry-requires-2 : tie.Need-put-contents-entry-requires-2
+put-contents-entry-requires-2 c κs = search needs
 
-element-copy-out-put-entry-3 : tie.Need-element-copy-out-put-entry-3
-element-copy-out-put-entry-3 c = search needs
+element-copy-out-put-contents-entry-3 : tie.Need-element-copy-out-put-contents-entry-3
+element-copy-out-put-contents-entry-3 c = search needs
 
-put-entry-requires-3 : tie.Need-put-entry-requires-3
-put-entry-requires-3 c κs = search needs
+put-contents-entry-requires-3 : tie.Need-put-contents-entry-requires-3
+put-contents-entry-requires-3 c κs = search needs
 
-element-copy-out-put-entry-4 : tie.Need-element-copy-out-put-entry-4
-element-copy-out-put-entry-4 c = search needs
+element-copy-out-put-contents-entry-4 : tie.Need-element-copy-out-put-contents-entry-4
+element-copy-out-put-contents-entry-4 c = search needs
 
-put-entry-requires-4 : tie.Need-put-entry-requires-4
-put-entry-requires-4 c κs = search needs
+put-contents-entry-requires-4 : tie.Need-put-contents-entry-requires-4
+put-contents-entry-requires-4 c κs = search needs
 
 same-length : tie.Need-same-length
 same-length c = search needs
@@ -47,22 +47,22 @@ returns c =
     let entries = steps .before .before .before .before .before in
     let terms = entries .before .before .before .before .before in
     let entry = terms .before .before .before .before .before .before .before .before .before in
-    contents-put _ _ _ _ (entry .pre) (terms .put-entry .ensures) (entries .put-entry2 .ensures) (steps .put-entry3 .ensures) (claim .put-entry4 .ensures)
+    contents-put _ _ _ _ (entry .pre) (terms .put-contents-entry .ensures) (entries .put-contents-entry2 .ensures) (steps .put-contents-entry3 .ensures) (claim .put-contents-entry4 .ensures)
 
 pub put-contents-spec : {M : Type 1} → statement M
 put-contents-spec =
     tie.close
     (tie.spec
-    add-k
-    add-d
-    add-v
-    element-copy-out-put-entry
-    put-entry-requires
-    element-copy-out-put-entry-2
-    put-entry-requires-2
-    element-copy-out-put-entry-3
-    put-entry-requires-3
-    element-copy-out-put-entry-4
-    put-entry-requires-4
+    add-knowledge-start
+    add-derivation-start
+    add-claim-start
+    element-copy-out-put-contents-entry
+    put-contents-entry-requires
+    element-copy-out-put-contents-entry-2
+    put-contents-entry-requires-2
+    element-copy-out-put-contents-entry-3
+    put-contents-entry-requires-3
+    element-copy-out-put-contents-entry-4
+    put-contents-entry-requires-4
     same-length
     returns)

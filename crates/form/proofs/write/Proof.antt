@@ -1,5 +1,5 @@
 -- `write` meets its contract: the checks in order, then the page.
-use Rattle.form.proofs.WriteReturns.{ragged-out, limits-out, whole-passed}
+use Rattle.form.proofs.WriteReturns.{ragged-out, limits-out, writable-passed}
 use borrow.Author.Needs.{needs}
 use Rattle.form.proofs.write.Statement.{statement}
 use Rattle.form.proofs.write.Tie as tie
@@ -34,8 +34,8 @@ answered-by-requires-2 c κs = search needs
 returns-2 : tie.Need-returns-2
 returns-2 c = search (limits-out, needs)
 
-write-whole-requires : tie.Need-write-whole-requires
-write-whole-requires c κs = search (whole-passed, needs)
+write-checked-requires : tie.Need-write-checked-requires
+write-checked-requires c κs = search (writable-passed, needs)
 
 same-length : tie.Need-same-length
 same-length c = search needs
@@ -57,6 +57,6 @@ write-spec =
     enum-told-4
     answered-by-requires-2
     returns-2
-    write-whole-requires
+    write-checked-requires
     same-length
     returns-3)

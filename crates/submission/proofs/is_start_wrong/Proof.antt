@@ -2,7 +2,7 @@
 use Rattle.base.proofs.TestChains.{chain, apart-from, apart-eqb, same-eqb, told-eqb, told-not}
 use Rattle.base.proofs.BoolLaws.{not-of-true, not-of-false}
 use Rattle.submission.specs.Record.{startOf}
-use Rattle.submission.proofs.ContentsTests.{any-four}
+use Rattle.base.proofs.Says.{any-four}
 use borrow.Author.Needs.{needs}
 use Rattle.submission.proofs.is_start_wrong.Statement.{statement}
 use Rattle.submission.proofs.is_start_wrong.Tie as tie

@@ -3,7 +3,7 @@ use mathlib.Core.Path.{_≡_, refl, sym, ap, _∙_}
 use mathlib.Core.Logic.{_↔_}
 use mathlib.Core.Bool.{Bool, false, not}
 use mathlib.Core.List.{List, [], _∷_}
-use Prim.Native.Nat.{ℕ, zero, suc, _+_, _*_, _/_, _%_, _≤_, _<_}
+use Prim.Native.Nat.{ℕ, _+_, _*_, _/_, _%_, _≤_, _<_}
 use native.Mathlib.Nat.{add-zero}
 use native.Mathlib.Omega.{arith}
 use lib.ListN.{length, take, drop, length-take, length-drop}
@@ -12,7 +12,7 @@ use lib.Dec.{eqb, ltb}
 use borrow.Author.Tests.{ltb-false, le-ltb, eq-eqb}
 use Rattle.base.specs.Words.{byte, Bytes}
 use Rattle.base.specs.Computed.{any}
-use Rattle.base.proofs.Says.{or-false, any-false, not-not-false, says-eqb}
+use Rattle.base.proofs.Says.{or-false, any-false, not-not-false, says-eqb, each-of-four}
 use Rattle.submission.specs.Record.{letter, count, start}
 use Rattle.submission.specs.Body.{contentsEntry, contents}
 use Rattle.submission.specs.Check.{ContentsFit}
@@ -22,14 +22,6 @@ pub contents-length : (n : ℕ → ℕ) → length (contents n) ≡ 16
 unfolding contents
 contents-length n = refl
 
--- what holds of each of the four entries, and of each of the four bodies
-pub each : (P : ℕ → Type 0) → P 0 → P 1 → P 2 → P 3 → (i : ℕ) → i < 4 → P i
-each P p q r s zero l = p
-each P p q r s (suc zero) l = q
-each P p q r s (suc (suc zero)) l = r
-each P p q r s (suc (suc (suc zero))) l = s
-each P p q r s (suc (suc (suc (suc i)))) l = absurd (omega arith)
-
 four : (s : List ℕ) → 4 ≤ length s → take 4 s ≡ byte s 0 ∷ byte s 1 ∷ byte s 2 ∷ byte s 3 ∷ []
 four [] l = absurd (omega arith)
 four (a ∷ []) l = absurd (omega arith)
@@ -37,23 +29,23 @@ four (a ∷ b ∷ []) l = absurd (omega arith)
 four (a ∷ b ∷ c ∷ []) l = absurd (omega arith)
 four (a ∷ b ∷ c ∷ d ∷ s) l = refl
 
--- the letters and the starts of the first n entries are those of document 01
-abbrev lettersRight : List ℕ → Type 0
-lettersRight s = (i : ℕ) → i < 4 → byte s (4 * i) ≡ letter i
+-- the letters and the starts of the four entries are document 01's
+abbrev LettersRight : List ℕ → Type 0
+LettersRight s = (i : ℕ) → i < 4 → byte s (4 * i) ≡ letter i
 
-abbrev startsRight : List ℕ → Type 0
-startsRight s = (i : ℕ) → i < 4 → byte s (4 * i + 2) * 256 + byte s (4 * i + 3) ≡ start s i
+abbrev StartsRight : List ℕ → Type 0
+StartsRight s = (i : ℕ) → i < 4 → byte s (4 * i + 2) * 256 + byte s (4 * i + 3) ≡ start s i
 
 module _ (s : List ℕ) (bytes : Bytes s) where
   -- an entry of the contents is the one that its count asks for
-  entry-is : 16 ≤ length s → lettersRight s → startsRight s → (i : ℕ) → i < 4 → take 4 (drop (4 * i) s) ≡ contentsEntry (count s) i
+  entry-is : 16 ≤ length s → LettersRight s → StartsRight s → (i : ℕ) → i < 4 → take 4 (drop (4 * i) s) ≡ contentsEntry (count s) i
   entry-is long letters starts i l =
       let m : 4 ≤ length (drop (4 * i) s) = rw (length-drop (4 * i) s) (omega arith) in
       let h : byte s (4 * i + 2) ≡ start s i / 256 = omega (arith, starts i l, bytes (4 * i + 3)) in
       let g : byte s (4 * i + 3) ≡ start s i % 256 = omega (arith, starts i l, bytes (4 * i + 3)) in
       four (drop (4 * i) s) m ∙ rw (getD-drop (4 * i) s 0 0, getD-drop (4 * i) s 1 0, getD-drop (4 * i) s 2 0, getD-drop (4 * i) s 3 0, add-zero (4 * i), letters i l, h, g)
 
-  contents-are : 16 ≤ length s → lettersRight s → startsRight s → take 16 s ≡ contents (count s)
+  contents-are : 16 ≤ length s → LettersRight s → StartsRight s → take 16 s ≡ contents (count s)
   unfolding contents
   contents-are long letters starts =
       let entry = entry-is long letters starts in
@@ -66,14 +58,14 @@ module _ (s : List ℕ) (bytes : Bytes s) where
     at : (j : ℕ) → j < 16 → byte s j ≡ byte (contents (count s)) j
     at j l = sym (getD-take 16 s j 0 l) ∙ ap (λ (x : List ℕ). byte x j) t
 
-    letters-right : lettersRight s
+    letters-right : LettersRight s
     unfolding contents
-    letters-right = each (λ i. byte s (4 * i) ≡ letter i) (at 0 (omega arith)) (at 4 (omega arith)) (at 8 (omega arith)) (at 12 (omega arith))
+    letters-right = each-of-four (λ i. byte s (4 * i) ≡ letter i) (at 0 (omega arith)) (at 4 (omega arith)) (at 8 (omega arith)) (at 12 (omega arith))
 
-    starts-right : startsRight s
+    starts-right : StartsRight s
     unfolding contents
     starts-right =
-        each (λ i. byte s (4 * i + 2) * 256 + byte s (4 * i + 3) ≡ start s i)
+        each-of-four (λ i. byte s (4 * i + 2) * 256 + byte s (4 * i + 3) ≡ start s i)
         (word 0 (at 2 (omega arith)) (at 3 (omega arith))) (word 1 (at 6 (omega arith)) (at 7 (omega arith))) (word 2 (at 10 (omega arith)) (at 11 (omega arith))) (word 3 (at 14 (omega arith)) (at 15 (omega arith)))
       where
         word : (i : ℕ) {h l : ℕ} → h ≡ start s i / 256 → l ≡ start s i % 256 → h * 256 + l ≡ start s i

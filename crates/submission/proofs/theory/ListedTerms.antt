@@ -2,12 +2,11 @@
 -- Its records are a table: its term numbers stand for its terms, one for one.
 use mathlib.Core.Path.{_≡_, refl, sym, ap, ap₂, _∙_, subst}
 use mathlib.Core.Logic.{_↔_, ⊎-elim}
-use mathlib.Core.Bool.{true, false, _||_, cond, false≢true, not}
+use mathlib.Core.Bool.{true, false, cond, false≢true, not}
 use mathlib.Core.List.{List}
 use mathlib.Core.Option.{Option, none, some}
 use Prim.Native.Nat.{ℕ, zero, suc, _+_, _*_, _<_, _≤_}
 use native.Mathlib.Omega.{arith}
-use lib.Dec.{ltb}
 use borrow.Author.Tests.{ltb-false}
 use Rattle.base.proofs.Order.{lt-or-ge}
 use Rattle.base.proofs.Says.{Says, says-eqb, says-ltb, says-and, says-or, not-not-false, or-false, none-fails}
@@ -19,7 +18,7 @@ use Rattle.base.specs.Words.{Bytes, first}
 use Rattle.term.proofs.Table.{decode-inj, decoded-reads}
 use Rattle.term.specs.Computed.{isAtomic}
 use Rattle.base.specs.Computed.{passes, failsIf, failsAt}
-use Rattle.submission.specs.{Record.count, Record.terms, Record.entries, Record.steps, Record.kindAt, Record.xAt, Record.yAt, Record.nameAt, Record.entryAt, Record.guess, Record.verifying, Record.wayAt, Record.companion, Record.recordOf, Record.recordAt, Record.term, Computed.areInverse}
+use Rattle.submission.specs.{Record.count, Record.least, Record.most, Record.terms, Record.entries, Record.steps, Record.kindAt, Record.xAt, Record.yAt, Record.nameAt, Record.entryAt, Record.guess, Record.verifying, Record.wayAt, Record.companion, Record.recordOf, Record.recordAt, Record.term, Computed.areInverse}
 use Rattle.submission.specs.Check.{HasSecond, Shaped, ClaimFits, Way, another-step, at-start, inverse-key, wayOf, Range, step-number, term-number, zero-only, row, InRange}
 use Rattle.submission.specs.Computed.{badCount, badContents, inRange, claimFits, badTerm, badKnowledge, goodClaim, checks1to4, checks1to5}
 use Rattle.base.proofs.AnswerLaws.{if-passes, at-passes, then-passes}
@@ -163,8 +162,9 @@ pub record Listed (s : List ℕ) : Type 0 where
   pub same-number : (i j : ℕ) → i < terms s → j < terms s → term s i ≡ term s j → i ≡ j
   pub entry-below : (i : ℕ) → i < entries s → entryAt s i < terms s
 
-within : (a b c : ℕ) → ltb b a || ltb c b ≡ false → (a ≤ b) × (b ≤ c)
-within a b c e = let u = or-false _ _ .0 e in (ltb-false b a (u .0), ltb-false c b (u .1))
+-- any counts that pass check 2 are within their limits
+pub within-limits : (n : ℕ → ℕ) (i : ℕ) → badCount n i ≡ false → (least i ≤ n i) × (n i ≤ most i)
+within-limits n i e = let u = or-false _ _ .0 e in (ltb-false (n i) (least i) (u .0), ltb-false (most i) (n i) (u .1))
 
 -- what checks 2 to 4 say of every entry, record and term number, where they pass
 pub pass-2-to-4 : (s : List ℕ) → checks1to4 s ≡ passes →
@@ -184,10 +184,10 @@ listed s b e =
     let t = table-at s b all in
     record {
       bytes = b;
-      terms-least = within 1 (terms s) 250 (counts 0 (omega arith)) .0;
-      terms-most = within 1 (terms s) 250 (counts 0 (omega arith)) .1;
-      entries-most = within 0 (entries s) 64 (counts 1 (omega arith)) .1;
-      steps-most = within 0 (steps s) 128 (counts 2 (omega arith)) .1;
+      terms-least = within-limits (count s) 0 (counts 0 (omega arith)) .0;
+      terms-most = within-limits (count s) 0 (counts 0 (omega arith)) .1;
+      entries-most = within-limits (count s) 1 (counts 1 (omega arith)) .1;
+      steps-most = within-limits (count s) 2 (counts 2 (omega arith)) .1;
       good = all;
       table = t;
       messages = λ i l. messages-below s b all t (suc i) i (omega arith) l;

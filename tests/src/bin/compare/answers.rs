@@ -74,9 +74,8 @@ impl Written {
         let [terms, knowledge, derivation, claim] = form.bodies();
         let mut page = form.page.clone();
         let answer = raw::write(terms, knowledge, derivation, claim, &mut page);
-        let check = page
-            .get(..answer as usize)
-            .map(|written| raw::check(written, &mut [0; LONGEST_PROGRAM]));
+        let written = if answer < REFUSAL { page.get(..answer as usize) } else { None };
+        let check = written.map(|written| raw::check(written, &mut [0; LONGEST_PROGRAM]));
         Written { answer, page, check }
     }
 }

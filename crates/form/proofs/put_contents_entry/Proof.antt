@@ -1,8 +1,8 @@
 -- The four bytes of an entry, one after the other.
-use Rattle.form.proofs.WriteReturns.{entry-put}
+use Rattle.form.proofs.WriteReturns.{contents-entry-put}
 use borrow.Author.Needs.{needs}
-use Rattle.form.proofs.put_entry.Statement.{statement}
-use Rattle.form.proofs.put_entry.Tie as tie
+use Rattle.form.proofs.put_contents_entry.Statement.{statement}
+use Rattle.form.proofs.put_contents_entry.Tie as tie
 
 put-requires : tie.Need-put-requires
 put-requires c κs = search needs
@@ -29,10 +29,10 @@ same-length : tie.Need-same-length
 same-length c = search needs
 
 returns : tie.Need-returns
-returns c = search (entry-put, needs)
+returns c = search (contents-entry-put, needs)
 
-pub put-entry-spec : {M : Type 1} → statement M
-put-entry-spec =
+pub put-contents-entry-spec : {M : Type 1} → statement M
+put-contents-entry-spec =
     tie.close
     (tie.spec
     put-requires

@@ -1,8 +1,8 @@
--- `write_whole` meets its contract: the page's room, then the bytes.
+-- `write_checked` meets its contract: the page's room, then the bytes.
 use Rattle.form.proofs.WriteReturns.{page-short, page-written}
 use borrow.Author.Needs.{needs}
-use Rattle.form.proofs.write_whole.Statement.{statement}
-use Rattle.form.proofs.write_whole.Tie as tie
+use Rattle.form.proofs.write_checked.Statement.{statement}
+use Rattle.form.proofs.write_checked.Tie as tie
 
 add-length : tie.Need-add-length
 add-length c = search needs
@@ -34,8 +34,8 @@ same-length c = search needs
 returns-2 : tie.Need-returns-2
 returns-2 c = search (page-written, needs)
 
-pub write-whole-spec : {M : Type 1} → statement M
-write-whole-spec =
+pub write-checked-spec : {M : Type 1} → statement M
+write-checked-spec =
     tie.close
     (tie.spec
     add-length
