@@ -10,7 +10,7 @@ use lib.ListN.{getD}
 use borrow.Author.Tests.{ne-eqb, eqb-true, eqb-false}
 use Rattle.base.proofs.BoolLaws.{and-right}
 use Rattle.base.proofs.Says.{says-eqb, says-or, says-and, says-true}
-use Rattle.term.specs.Term.{symmetric, asymmetric, Form, pair, encryption, Head, make, Shape, atomic, compound, branch}
+use Rattle.term.specs.Term.{symmetric, asymmetric, Form, pair, hash, encryption, Head, make, Shape, atomic, compound, branch}
 use Rattle.term.specs.{Number.shapeOf, Computed.kindOf}
 use Rattle.term.proofs.Kind.{shape-kind, kind-shape}
 use Rattle.term.proofs.Table.{part-below}
@@ -69,6 +69,7 @@ module _ {s : List ℕ} {t : ℕ} {a : Term} (v : TableRead s) (l : t < terms s)
       go : (m : List Bool) (n : ℕ) (w : Shape) → shapeOf (kindAt s t) ≡ some w → gives s m (recordAt s t) n ≡ false
       go m n (atomic κ) e = rw (shape-record s t (atomic κ) e)
       go m n (compound pair) e = absurd (b (kind (compound pair) e))
+      go m n (compound hash) e = rw (shape-record s t (compound hash) e)
       go m n (compound (encryption symmetric)) e = absurd (c (kind (compound (encryption symmetric)) e))
       go m n (compound (encryption asymmetric)) e = absurd (d (kind (compound (encryption asymmetric)) e))
 

@@ -4,7 +4,7 @@ use mathlib.Core.{Path._≡_, Bool.Bool, Bool.true, Bool.false, Bool._&&_, Bool.
 use Prim.Native.Nat.{ℕ, zero, suc, _<_}
 use lib.{Dec.eqb, ListN.getD}
 use Rattle.base.specs.Words.{listed}
-use Rattle.term.specs.{Term.Cipher, Term.symmetric, Term.asymmetric, Term.pair, Term.encryption, Term.make, Term.part, Term.decrypt, Term.Rec, Term.leaf, Term.branch}
+use Rattle.term.specs.{Term.Cipher, Term.symmetric, Term.asymmetric, Term.pair, Term.hash, Term.encryption, Term.make, Term.part, Term.decrypt, Term.Rec, Term.leaf, Term.branch}
 use Rattle.submission.specs.{Record.terms, Record.entries, Record.entryAt, Record.recordAt, Computed.areInverse, Computed.checks1to4}
 use Rattle.term.specs.Term.{Term}
 use Rattle.submission.specs.Record.{term}
@@ -36,6 +36,7 @@ opens asymmetric s m k = any (λ j. areInverse s k j && built s m j) (terms s)
 abbrev pub gives : List ℕ → List Bool → Rec → ℕ → Bool
 gives s m (leaf κ z) n = false
 gives s m (branch (make pair) x y) n = eqb n x || eqb n y
+gives s m (branch (make hash) x y) n = false
 gives s m (branch (part i) x y) n = false
 gives s m (branch (make (encryption c)) x k) n = eqb n x && opens c s m k
 gives s m (branch (decrypt c) x y) n = false

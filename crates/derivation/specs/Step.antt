@@ -20,7 +20,7 @@ concluded s i = term s (conclusionAt s i)
 abbrev pub Premise : List ℕ → ℕ → Term → Type 0
 Premise s i x = (x ≡ firstPremise s i) ⊎ (x ≡ secondPremise s i)
 
--- step i is right in rule, numbers and shape. "Rules 1 and 2 have q = 0."
+-- step i is right in rule, numbers and shape. "Rules 1 and 2 have q = 0." A2: rule 7 "with q = 0"
 pub record StepFits (s : List ℕ) (i : ℕ) : Type 0 where
   pub rule-below : ruleAt s i < rules
   pub p-below : pAt s i < terms s

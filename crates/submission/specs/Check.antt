@@ -50,13 +50,13 @@ InRange s zero-only n = n ≡ 0
 abbrev pub ContentsFit : List ℕ → Type 0
 ContentsFit s = (take 16 s ≡ contents (count s)) × (length s ≡ start s 4)
 
--- "y a plain atom", "y a key of kind 2 or 3", as the second operand of record i; where there is none, y is 0
+-- "y a plain atom", "y a key of kind 2 or 3", as the second operand of record i; A2: "with y = 0", where there is none
 abbrev pub HasSecond : List ℕ → ℕ → Second → Type 0
 HasSecond s i absent = yAt s i ≡ 0
 HasSecond s i anything = yAt s i < i
 HasSecond s i (keyFor c) = (yAt s i < i) × (isKeyFor c (shapeOf (kindAt s (yAt s i))) ≡ true)
 
--- "In 4 to 6, x and y number earlier terms"
+-- "In 4 to 6, x and y number earlier terms"; A2: "x an earlier term"
 abbrev pub Shaped : List ℕ → ℕ → Shape → Type 0
 Shaped s i (atomic κ) = Unit {0}
 Shaped s i (compound f) = (xAt s i < i) × HasSecond s i (second f)

@@ -4,7 +4,7 @@ use mathlib.Core.Logic.{_⊎_, inl, inr, ⊎-elim}
 use mathlib.Core.Bool.{true}
 use native.Mathlib.Omega.{arith}
 use Prim.Native.Nat.{ℕ}
-use Rattle.term.specs.Term.{plain, public, private, Cipher, symmetric, asymmetric, Side, left, right, pair, encryption, Head, make, part, decrypt, Term, atom, node, isKey, inverse, Match, single, Part, pick, Fresh}
+use Rattle.term.specs.Term.{plain, public, private, Cipher, symmetric, asymmetric, Side, left, right, pair, hash, encryption, Head, make, part, decrypt, Term, atom, node, isKey, inverse, Match, single, Part, pick, Fresh}
 use Rattle.term.specs.Code.{builds, Message}
 use Rattle.term.specs.Reduce.{op}
 use Rattle.term.specs.Step.{Step, Undoes}
@@ -162,6 +162,7 @@ module _ (K : Term → Type 0) (D : Head → Term → Term → Term → Type 0) 
         let s₂ = sound (part right) q₀ q₁ q d′ in
         let f : p₀ ≡ t = cc in
         (subst (λ z. MayHold z r) f x₀, (part left, p₀, p₁, p, d, inr (refl, f)))
+    reduced (make hash) p q t x taint red = absurd red
     reduced (part i) p q t x taint red =
         let (p₁, q₁, d, x₁, y₁) = formed-by (x .first) (red .2) (λ k e. clean-fresh k e (both (x .once refl) taint)) in
         let s = sound (part i) p q t (x .step) in

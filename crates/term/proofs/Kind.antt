@@ -10,7 +10,7 @@ use lib.ListN.{length}
 use borrow.Author.Tests.{ne-eqb}
 use Rattle.base.specs.Words.{grow, listed}
 use Rattle.base.proofs.Says.{Says, says-eqb}
-use Rattle.term.specs.{Term.plain, Term.public, Term.private, Term.symmetric, Term.asymmetric, Term.Form, Term.pair, Term.encryption, Term.Second, Term.absent, Term.anything, Term.keyFor, Term.make, Term.single, Computed.takes, Term.Shape, Term.atomic, Term.compound, Computed.shape?, Computed.isAtomic, Term.isKeyFor, Number.kinds, Number.shapeOf, Computed.kindOf, Computed.inverseKinds}
+use Rattle.term.specs.{Term.plain, Term.public, Term.private, Term.symmetric, Term.asymmetric, Term.Form, Term.pair, Term.hash, Term.encryption, Term.Second, Term.absent, Term.anything, Term.keyFor, Term.make, Term.single, Computed.takes, Term.Shape, Term.atomic, Term.compound, Computed.shape?, Computed.isAtomic, Term.isKeyFor, Number.kinds, Number.shapeOf, Computed.kindOf, Computed.inverseKinds}
 use Rattle.term.specs.Code.{isUnary, builderOf, secondOf, ruleOf}
 use Rattle.term.specs.Number.{rules, headOf, hasOne}
 use Rattle.term.proofs.Numbered.{Arms, choice, allBelow, choice-is, entry-past, entry-place}
@@ -25,6 +25,7 @@ kind-shape (atomic private) = refl
 kind-shape (compound pair) = refl
 kind-shape (compound (encryption symmetric)) = refl
 kind-shape (compound (encryption asymmetric)) = refl
+kind-shape (compound hash) = refl
 
 -- and none stands twice
 pub shape-kind : (k : ℕ) (z : Shape) → shapeOf k ≡ some z → k ≡ kindOf z
@@ -61,13 +62,17 @@ pub key : (n : ℕ) {r : Bool} → r ≡ choice ((2, true) ∷ (3, true) ∷ [])
 unfolding shapeOf grow
 key n e = e ∙ kind-column (isKeyFor asymmetric) ((2, true) ∷ (3, true) ∷ []) refl refl n
 
+pub symmetric-key : (n : ℕ) {r : Bool} → r ≡ choice ((1, true) ∷ (7, true) ∷ []) false n → r ≡ isKeyFor symmetric (shapeOf n)
+unfolding shapeOf grow
+symmetric-key n e = e ∙ kind-column (isKeyFor symmetric) ((1, true) ∷ (7, true) ∷ []) refl refl n
+
 pub atom : (n : ℕ) {r : Bool} → r ≡ choice ((1, true) ∷ []) (isKeyFor asymmetric (shapeOf n)) n → r ≡ isAtomic (shapeOf n)
 unfolding shapeOf grow
 atom n e = e ∙ rw (← (key n refl)) (kind-column isAtomic ((1, true) ∷ (2, true) ∷ (3, true) ∷ []) refl refl n)
 
 -- the rule that builds the kind n
 abbrev builders : Arms ℕ
-builders = (4, 0) ∷ (5, 3) ∷ (6, 5) ∷ []
+builders = (4, 0) ∷ (5, 3) ∷ (6, 5) ∷ (7, 7) ∷ []
 
 pub builder : (n : ℕ) {r : ℕ} → r ≡ choice builders rules n → r ≡ builderOf (shapeOf n)
 unfolding shapeOf grow
@@ -90,14 +95,6 @@ seconds = (4, anything) ∷ (5, keyFor symmetric) ∷ (6, keyFor asymmetric) ∷
 pub second-operand : (n j : ℕ) {r : Bool} (o : Second) → r ≡ takes o (shapeOf j) → o ≡ choice seconds absent n → r ≡ takes (secondOf (shapeOf n)) (shapeOf j)
 unfolding shapeOf grow
 second-operand n j o f e = f ∙ ap (λ o. takes o (shapeOf j)) (e ∙ kind-column secondOf seconds refl refl n)
-
-told : (b : Bool) → b ≡ cond b true false
-told true = refl
-told false = refl
-
-pub plain-kind : (n : ℕ) → eqb n 1 ≡ isKeyFor symmetric (shapeOf n)
-unfolding shapeOf grow
-plain-kind n = told (eqb n 1) ∙ kind-column (isKeyFor symmetric) ((1, true) ∷ []) refl refl n
 
 -- what is no key has no inverse
 pub no-inverse : (k j : ℕ) → isKeyFor asymmetric (shapeOf k) ≡ false → inverseKinds k j ≡ false

@@ -5,7 +5,7 @@ use mathlib.Core.Bool.{false≢true, true, false}
 use native.Mathlib.Omega.{arith}
 use Prim.Native.Nat.{ℕ}
 use Rattle.base.proofs.Says.{Says}
-use Rattle.term.specs.{Term.Kind, Term.plain, Term.public, Term.private, Term.Cipher, Term.symmetric, Term.asymmetric, Term.Side, Term.left, Term.right, Term.Form, Term.pair, Term.encryption, Term.Head, Term.make, Term.part, Term.decrypt, Term.Term, Term.atom, Term.node, Computed.term?, Computed.head?, Term.isKey, Term.inverse, Term.Match, Term.Part}
+use Rattle.term.specs.{Term.Kind, Term.plain, Term.public, Term.private, Term.Cipher, Term.symmetric, Term.asymmetric, Term.Side, Term.left, Term.right, Term.Form, Term.pair, Term.hash, Term.encryption, Term.Head, Term.make, Term.part, Term.decrypt, Term.Term, Term.atom, Term.node, Computed.term?, Computed.head?, Term.isKey, Term.inverse, Term.Match, Term.Part}
 use Rattle.base.specs.Words.{ite}
 use Rattle.term.specs.Code.{Message}
 use Rattle.term.specs.Computed.{match?}
@@ -41,6 +41,7 @@ Cancels c inner a b r = (k : Term) × (a ≡ node inner r k) × Match c k b
 -- the head h over a and b is reduced to r
 abbrev pub Reduces : Head → Term → Term → Term → Type 0
 Reduces (make pair) a b r = (x y : Term) × (a ≡ node (part left) r x) × (b ≡ node (part right) r y)
+Reduces (make hash) a b r = ⊥
 Reduces (part s) a b r = (x y : Term) × (a ≡ node (make pair) x y) × (r ≡ pick s x y)
 Reduces (make (encryption c)) a b r = Cancels c (decrypt c) a b r
 Reduces (decrypt c) a b r = Cancels c (make (encryption c)) a b r
@@ -80,6 +81,7 @@ paired-cases (node h x x′) (node h′ y y′) =
 pub op-cases : (h : Head) (a b : Term) → Outcome h a b (op h a b)
 unfolding op
 op-cases (make pair) a b = paired-cases a b
+op-cases (make hash) a b = inr refl
 op-cases (make (encryption c)) a b = cancelled-cases c (decrypt c) (make (encryption c)) a b
 op-cases (part s) a b = parted-cases s a b
 op-cases (decrypt c) a b = cancelled-cases c (make (encryption c)) (decrypt c) a b
@@ -104,6 +106,7 @@ paired-reduced x y z =
 pub op-reduces : (h : Head) (a b r : Term) → Reduces h a b r → op h a b ≡ r
 unfolding op
 op-reduces (make pair) a b r u = ap₂ paired (u .2) (u .3) ∙ paired-reduced r (u .0) (u .1)
+op-reduces (make hash) a b r u = absurd u
 op-reduces (make (encryption c)) a b r u = cancelled-reduces c (decrypt c) (make (encryption c)) a b r u
 op-reduces (part s) a b r u = ap (λ z. parted s z b) (u .2) ∙ parted-reduced s (u .0) (u .1) b ∙ sym (u .3)
 op-reduces (decrypt c) a b r u = cancelled-reduces c (make (encryption c)) (decrypt c) a b r u
@@ -111,6 +114,7 @@ op-reduces (decrypt c) a b r u = cancelled-reduces c (make (encryption c)) (decr
 -- ---- over messages a form reduces nothing, and the machine does what the rule says
 message-unreduced : (f : Form) (a b r : Term) → Message a → Reduces (make f) a b r → ⊥
 message-unreduced pair a b r p u = (subst Message (u .2) p) .0
+message-unreduced hash a b r p u = u
 message-unreduced (encryption c) a b r p u = (subst Message (u .1) p) .0
 
 op-message : (f : Form) (a b : Term) → Message a → op (make f) a b ≡ node (make f) a b

@@ -11,7 +11,7 @@ use lib.ListN.{length, List·getD-eq-default}
 use borrow.Author.Tests.{eq-eqb, ne-eqb, lt-ltb, le-ltb, leb-true}
 use Rattle.base.proofs.Order.{lt-or-ge}
 use Rattle.base.proofs.Says.{Says}
-use Rattle.term.specs.{Term.symmetric, Term.asymmetric, Term.left, Term.right, Term.pair, Term.encryption, Term.Head, Term.make, Term.part, Term.decrypt, Computed.head?, Term.single}
+use Rattle.term.specs.{Term.symmetric, Term.asymmetric, Term.left, Term.right, Term.pair, Term.hash, Term.encryption, Term.Head, Term.make, Term.part, Term.decrypt, Computed.head?, Term.single}
 use Rattle.base.specs.Words.{ite, grow, listed}
 use Rattle.term.specs.Number.{table, rules, wordOf, headOf, hasOne}
 use Rattle.term.specs.Code.{heads}
@@ -25,6 +25,7 @@ use Rattle.term.proofs.Numbered.{same-below, is, Arms, choice, allBelow
 pub head-rule : (h : Head) → headOf (ruleOf h) ≡ h
 unfolding headOf
 head-rule (make pair) = refl
+head-rule (make hash) = refl
 head-rule (make (encryption symmetric)) = refl
 head-rule (make (encryption asymmetric)) = refl
 head-rule (part left) = refl
@@ -69,7 +70,7 @@ rule-column c l e f n = choice-is l (c (decrypt asymmetric)) (λ n. c (headOf n)
 
 -- the rules with one operand
 abbrev singles : Arms Bool
-singles = (1, true) ∷ (2, true) ∷ []
+singles = (1, true) ∷ (2, true) ∷ (7, true) ∷ []
 
 pub one-operand : (n : ℕ) {r : Bool} → r ≡ choice singles false n → r ≡ hasOne n
 unfolding hasOne headOf grow

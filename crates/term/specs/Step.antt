@@ -17,7 +17,7 @@ Reaches K ((h, p, q, c) ∷ ls) t = Step h p q c × K p × K q × Reaches (λ u.
 abbrev pub Deducible : (Term → Type 0) → Term → Type 0
 Deducible K t = (ls : List (Head × Term × Term × Term)) × Reaches K ls t
 
--- what a head takes apart, by the head that builds it: fst and snd a pair, dec and deca an encryption
+-- what a head takes apart, by the head that builds it: fst and snd a pair, dec and deca an encryption; A2: "Nothing undoes a hash"
 abbrev pub takenBy : Head → Option Head
 takenBy (make f) = none
 takenBy (part s) = some (make pair)

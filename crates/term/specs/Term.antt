@@ -20,9 +20,9 @@ abbrev pub pick : {A : Type 0} → Side → A → A → A
 pick left x y = x
 pick right x y = y
 
--- what a listed compound term is made as: pair(x, y); enc(x, y) and enca(x, y)
+-- what a listed compound term is made as: pair(x, y); enc(x, y) and enca(x, y); hash(x)
 pub data Form : Type 0 where
-  pair : Form
+  pair hash : Form
   encryption : Cipher → Form
   deriving Discrete as Form-discrete
 
@@ -31,9 +31,10 @@ pub data Second : Type 0 where
   absent anything : Second
   keyFor : Cipher → Second
 
--- "4 pair(x, y); 5 enc(x, y), y a plain atom; 6 enca(x, y), y a key of kind 2 or 3"
+-- "4 pair(x, y); 5 enc(x, y), y a plain atom; 6 enca(x, y), y a key of kind 2 or 3"; A2: "hash(x), with y = 0"
 abbrev pub second : Form → Second
 second pair = anything
+second hash = absent
 second (encryption c) = keyFor c
 
 -- one operand stands alone
@@ -42,7 +43,7 @@ unary absent = true
 unary anything = false
 unary (keyFor c) = false
 
--- The rules' words: pair, enc and enca make a term of their form; fst and snd are the two parts; dec and deca decrypt.
+-- The rules' words: pair, enc, enca and hash make a term of their form; fst and snd are the two parts; dec and deca decrypt.
 pub data Head : Type 0 where
   make : Form → Head
   part : Side → Head
@@ -96,12 +97,13 @@ shape (node (make f) a b) = some (compound f)
 shape (node (part s) a b) = none
 shape (node (decrypt c) a b) = none
 
--- "y a plain atom", "y a key of kind 2 or 3". "Any plain atom may be a symmetric key (house rule)."
+-- "y a plain atom", "y a key of kind 2 or 3". "Any plain atom may be a symmetric key (house rule)." A2: "A hash may be the key of kind 5."
 abbrev pub isKeyFor : Cipher → Option Shape → Bool
 isKeyFor c none = false
-isKeyFor c (some (compound f)) = false
 isKeyFor symmetric (some (atomic κ)) = ite (Kind-discrete κ plain) true false
+isKeyFor symmetric (some (compound f)) = ite (Form-discrete Cipher-discrete f hash) true false
 isKeyFor asymmetric (some (atomic κ)) = keyKind κ
+isKeyFor asymmetric (some (compound f)) = false
 
 -- a and b are such operands of a listed term; one that stands alone stands twice
 abbrev pub Operands : Second → Term → Term → Type 0

@@ -2,7 +2,7 @@
 use crate::rules;
 ghost use mathlib.Core.Path.{_≡_};
 ghost use mathlib.Core.Bool.{cond};
-ghost use Rattle.term.specs.Term.{asymmetric, isKeyFor};
+ghost use Rattle.term.specs.Term.{symmetric, asymmetric, isKeyFor};
 ghost use Rattle.term.specs.Number.{shapeOf};
 ghost use Rattle.term.specs.Computed.{inverseKinds, isAtomic, takes as takesShape};
 ghost use Rattle.term.specs.Code.{isUnary, builderOf, secondOf};
@@ -19,6 +19,8 @@ pub const ENC: u8 = 5;
 
 pub const ENCA: u8 = 6;
 
+pub const HASH: u8 = 7;
+
 // Whether a term of this kind is a public or a private key.
 pub fn is_key(kind: u8) -> bool
     ensures { λ r. ⌜ r ≡ isKeyFor asymmetric (shapeOf kind) ⌝ }
@@ -26,6 +28,17 @@ pub fn is_key(kind: u8) -> bool
     match kind {
         PUBLIC => true,
         PRIVATE => true,
+        _ => false,
+    }
+}
+
+// Whether a term of this kind may be the key of kind 5: a plain atom, or a hash.
+pub fn is_symmetric_key(kind: u8) -> bool
+    ensures { λ r. ⌜ r ≡ isKeyFor symmetric (shapeOf kind) ⌝ }
+{
+    match kind {
+        PLAIN => true,
+        HASH => true,
         _ => false,
     }
 }
@@ -48,6 +61,7 @@ pub fn rule_of(kind: u8) -> u8
         PAIR => rules::PAIR,
         ENC => rules::ENC,
         ENCA => rules::ENCA,
+        HASH => rules::HASH,
         _ => rules::RULES,
     }
 }
@@ -72,7 +86,7 @@ pub fn takes(kind: u8, second: u8) -> bool
 {
     match kind {
         PAIR => true,
-        ENC => second == PLAIN,
+        ENC => is_symmetric_key(second),
         ENCA => is_key(second),
         _ => false,
     }

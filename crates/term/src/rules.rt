@@ -17,8 +17,10 @@ pub const ENCA: u8 = 5;
 
 pub const DECA: u8 = 6;
 
+pub const HASH: u8 = 7;
+
 // How many rules there are: the first number that is none.
-pub const RULES: u8 = 7;
+pub const RULES: u8 = 8;
 
 pub fn is_rule(rule: u8) -> bool
     ensures { λ r. ⌜ r ≡ isRule rule ⌝ }
@@ -33,6 +35,7 @@ pub fn has_one(rule: u8) -> bool
     match rule {
         FST => true,
         SND => true,
+        HASH => true,
         _ => false,
     }
 }

@@ -60,7 +60,7 @@ fn put_letters(out: &mut [u8], at: usize, a: u8, b: u8, c: u8, d: u8) -> usize
 fn put_rule(out: &mut [u8], at: usize, rule: u8) -> usize
     ensures { λ r. ⌜ Puts (now (out .entry)) at (wordOf rule) (now (out .exit)) r ⌝ }
 {
-    let words = b"pairfst snd enc dec encadeca";
+    let words = b"pairfst snd enc dec encadecahash";
     let i = 4 * wide(rule);
     if words.len() < i + 4 {
         return at;

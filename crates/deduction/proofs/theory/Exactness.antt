@@ -12,7 +12,7 @@ use Rattle.base.specs.Words.{listed}
 use Rattle.base.proofs.Says.{Says, says-eqb, says-and, says-or, says-any, says-true, same-test}
 use Rattle.base.proofs.BoolLaws.{or-left, or-right, and-both}
 use Rattle.base.proofs.Grow.{length-listed, listed-at}
-use Rattle.term.specs.Term.{Cipher, symmetric, asymmetric, left, right, pair, encryption, Head, make, part, decrypt, Term, node, Match, Rec, leaf, branch}
+use Rattle.term.specs.Term.{Cipher, symmetric, asymmetric, left, right, pair, hash, encryption, Head, make, part, decrypt, Term, node, Match, Rec, leaf, branch}
 use Rattle.term.specs.Step.{Deducible}
 use Rattle.term.proofs.Reduce.{picked, match-sym, key-is-atom}
 use Rattle.term.proofs.Reach.{Reach, known, reach-part, reach-opened, reach-reach, reach-iff}
@@ -55,6 +55,7 @@ module _ {s : List ℕ} (z : Listed s) (m : List Bool) where
           let (a, b) = part-below (z .table) i l r in
           ⊎-elim (λ q. rw q (a, reach-part left (whole r))) (λ q. rw q (b, reach-part right (whole r)))
           (says-or (eqb n x) (eqb n y) (says-eqb n x) (says-eqb n y) .0 g)
+      go (branch (make hash) x y) r g = absurd (false≢true g)
       go (branch (part j) x y) r g = absurd (false≢true g)
       go (branch (make (encryption c)) x k) r g =
           let (a, b) = part-below (z .table) i l r in
@@ -124,6 +125,7 @@ module _ {s : List ℕ} (z : Listed s) where
         go : (r : Rec) → recordAt s i ≡ r → gives s m r n ≡ gives s m′ r n
         go (leaf κ x) r = refl
         go (branch (make pair) x y) r = refl
+        go (branch (make hash) x y) r = refl
         go (branch (part j) x y) r = refl
         go (branch (make (encryption c)) x k) r = ap (λ b. eqb n x && b) (same-opens c k (part-below (z .table) i l r .1))
         go (branch (decrypt c) x y) r = refl

@@ -16,5 +16,8 @@ returns-3 c = builder _ (search arms)
 returns-4 : tie.Need-returns-4
 returns-4 c = builder _ (search arms)
 
+returns-5 : tie.Need-returns-5
+returns-5 c = builder _ (search arms)
+
 pub rule-of-spec : {M : Type 1} → statement M
-rule-of-spec = tie.close (tie.spec returns returns-2 returns-3 returns-4)
+rule-of-spec = tie.close (tie.spec returns returns-2 returns-3 returns-4 returns-5)

@@ -13,5 +13,8 @@ returns-2 c = one-operand _ (search arms)
 returns-3 : tie.Need-returns-3
 returns-3 c = one-operand _ (search arms)
 
+returns-4 : tie.Need-returns-4
+returns-4 c = one-operand _ (search arms)
+
 pub has-one-spec : {M : Type 1} → statement M
-has-one-spec = tie.close (tie.spec returns returns-2 returns-3)
+has-one-spec = tie.close (tie.spec returns returns-2 returns-3 returns-4)
