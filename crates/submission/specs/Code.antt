@@ -1,6 +1,6 @@
 -- What the code's records mean in document 01's terms.
 use mathlib.Core.{Path._≡_, Logic._⊎_, List.List, Option.Option, Option.none, Option.some}
-use Prim.Native.Nat.{ℕ, _+_, _*_, _≤_, _<_}
+use Prim.Native.Nat.{ℕ, _+_, _*_, _%_, _≤_, _<_}
 use lib.ListN.{length, getD}
 use Rattle.submission.specs.declared.Term.{Term}
 use Rattle.submission.specs.declared.Claim.{Claim}
@@ -87,15 +87,19 @@ pub record ReadingIs (s : List ℕ) (d : Check) (r : Reading) : Type 0 where
   pub answer : readingCheck r ≡ d
   pub claim : (c : Claim) → r ≡ Good c → IsClaim s c
 
--- b numbers the latest of the first i terms whose record's last byte is y, and 255 stands for none
-pub record Latest (s : List ℕ) (i y b : ℕ) : Type 0 where
-  pub is : (b ≡ 255) ⊎ ((b < i) × (yAt s b ≡ y))
-  pub last : (k : ℕ) → k < i → (b ≡ 255) ⊎ (b < k) → yAt s k ≡ y → ⊥
+-- the sum of a record's two bytes, as a byte
+abbrev pub sumAt : List ℕ → ℕ → ℕ
+sumAt s i = (xAt s i + yAt s i) % 256
 
--- before has, for each of the first n terms, the latest earlier one whose record has the same last byte
+-- b numbers the latest of the first i terms whose record has this sum, and 255 stands for none
+pub record Latest (s : List ℕ) (i sum b : ℕ) : Type 0 where
+  pub is : (b ≡ 255) ⊎ ((b < i) × (sumAt s b ≡ sum))
+  pub last : (k : ℕ) → k < i → (b ≡ 255) ⊎ (b < k) → sumAt s k ≡ sum → ⊥
+
+-- before has, for each of the first n terms, the latest earlier one whose record has the same sum
 pub record Chained (s : List ℕ) (n : ℕ) (before : List ℕ) : Type 0 where
   pub long : length before ≡ 256
-  pub is : (k : ℕ) → k < n → Latest s k (yAt s k) (getD before k 0)
+  pub is : (k : ℕ) → k < n → Latest s k (sumAt s k) (getD before k 0)
 
 -- what the limits say of the counts that programs and registers are made of
 pub record Limited (s : List ℕ) : Type 0 where

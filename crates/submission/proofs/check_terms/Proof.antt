@@ -24,14 +24,14 @@ loop-holds c = (passed-none, chaining-none)
 term-at-requires : tie.Need-term-at-requires Inv-loop μ-loop
 term-at-requires c κs = search scan
 
-wide-requires : tie.Need-wide-requires Inv-loop μ-loop
-wide-requires c κs = search scan
+sum-of-requires : tie.Need-sum-of-requires Inv-loop μ-loop
+sum-of-requires c κs = search scan
 
 array-read-before : tie.Need-array-read-before Inv-loop μ-loop
 array-read-before c = search scan
 
-wide-requires-2 : tie.Need-wide-requires-2 Inv-loop μ-loop
-wide-requires-2 c κs = search scan
+wide-requires : tie.Need-wide-requires Inv-loop μ-loop
+wide-requires c κs = search scan
 
 array-write-before : tie.Need-array-write-before Inv-loop μ-loop
 array-write-before c = search scan
@@ -44,8 +44,8 @@ is-term-bad-requires c κs =
     let d = c .before in
     let at = d .before .before .before in
     let m : at .before .before .terms .result < 256 = omega arith in
-    let h : d .before .wide .result < 256 = omega arith in
-    chaining-more (at .before .loop .inv .1) (at .loop-test .taken) m (d .before .before .term-at .ensures) (d .before .wide .ensures) (d .wide2 .ensures) h .chained
+    let h : d .before .sum-of .result < 256 = omega (arith, d .before .sum-of .ensures) in
+    chaining-more (at .before .loop .inv .1) (at .loop-test .taken) m (d .before .before .term-at .ensures) (d .before .sum-of .ensures) (d .wide .ensures) h .chained
 
 wide16-requires : tie.Need-wide16-requires Inv-loop μ-loop
 wide16-requires c κs = search scan
@@ -64,8 +64,8 @@ loop-again c =
     let d = c .before .before .before in
     let at = d .before .before .before in
     let m : at .before .before .terms .result < 256 = omega arith in
-    let h : d .before .wide .result < 256 = omega arith in
-    (search scan, chaining-more (at .before .loop .inv .1) (at .loop-test .taken) m (d .before .before .term-at .ensures) (d .before .wide .ensures) (d .wide2 .ensures) h)
+    let h : d .before .sum-of .result < 256 = omega (arith, d .before .sum-of .ensures) in
+    (search scan, chaining-more (at .before .loop .inv .1) (at .loop-test .taken) m (d .before .before .term-at .ensures) (d .before .sum-of .ensures) (d .wide .ensures) h)
 
 returns-2 : tie.Need-returns-2 Inv-loop μ-loop
 returns-2 c = search (passes-all, scan)
@@ -79,9 +79,9 @@ check-terms-spec =
     terms-requires
     loop-holds
     term-at-requires
-    wide-requires
+    sum-of-requires
     array-read-before
-    wide-requires-2
+    wide-requires
     array-write-before
     array-write-latest
     is-term-bad-requires

@@ -36,7 +36,7 @@ second-below s i absent l f = l
 second-below s i anything l f = f
 second-below s i (keyFor c) l f = f .0
 
-says-same : (s : List ℕ) (i j : ℕ) → Says (sameRecord s i j) ((kindAt s j ≡ kindAt s i) × ((xAt s j ≡ xAt s i) × (yAt s j ≡ yAt s i)))
+pub says-same : (s : List ℕ) (i j : ℕ) → Says (sameRecord s i j) ((kindAt s j ≡ kindAt s i) × ((xAt s j ≡ xAt s i) × (yAt s j ≡ yAt s i)))
 says-same s i j = says-and _ _ (says-eqb _ _) (says-and _ _ (says-eqb _ _) (says-eqb _ _))
 
 -- a record that passes check 3: its shape, and that no earlier one is equal to it
