@@ -4,7 +4,7 @@ use checker_tests::bodies::Bodies;
 use checker_tests::examples::{file, names, submission};
 use checker_tests::notation::{assemble, show};
 use checker_tests::reference::{contents, verdict, write};
-use checker_tests::tables::LONGEST_SUBMISSION;
+use checker_tests::tables::{Kind, Rule, LONGEST_SUBMISSION};
 
 fn text(name: &str, extension: &str) -> String {
     String::from_utf8(file(name, extension)).expect("a text")
@@ -113,20 +113,25 @@ fn each_listed_term_is_needed() {
     for name in by_rule() {
         let bodies = Bodies::read(&submission(&name)).expect("it has its bodies");
         let mut needed = vec![false; 256];
-        bodies.knowledge.iter().for_each(|&term| needed[usize::from(term)] = true);
-        bodies
-            .derivation
-            .iter()
-            .flat_map(|step| &step[1..])
-            .for_each(|&t| needed[usize::from(t)] = true);
-        needed[usize::from(bodies.claim[0])] = true;
+        let mut need =
+            |terms: &[u8]| terms.iter().for_each(|&term| needed[usize::from(term)] = true);
+        need(&bodies.knowledge);
+        for [rule, premises @ .., conclusion] in &bodies.derivation {
+            need(operands(Rule::from_number(*rule), premises));
+            need(&[*conclusion]);
+        }
+        need(&bodies.claim[..1]);
         for (number, [kind, parts @ ..]) in bodies.terms.iter().enumerate().rev() {
             assert!(needed[number], "{name}: term {number}");
-            if *kind > 3 {
-                parts.iter().for_each(|&part| needed[usize::from(part)] = true);
-            }
+            let parts = operands(Kind::from_number(*kind).and_then(Kind::rule), parts);
+            parts.iter().for_each(|&part| needed[usize::from(part)] = true);
         }
     }
+}
+
+/// Those of the two bytes that number operands of the rule, if there is one.
+fn operands(rule: Option<Rule>, bytes: &[u8; 2]) -> &[u8] {
+    &bytes[..rule.map_or(0, Rule::operands)]
 }
 
 /// What stands beside the program `published`, which the gate runs: all examples, each after its

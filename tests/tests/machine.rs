@@ -1,4 +1,4 @@
-//! The reference's machine: each reduction, each test, and terms that are huge as trees.
+//! The reference's machine: each reduction, hashes, each test, and terms that are huge as trees.
 
 use checker_tests::notation::assemble;
 use checker_tests::reference::run;
@@ -93,6 +93,43 @@ fn asymmetric_encryption_cancels_under_inverse_keys() {
 fn schemes_do_not_mix() {
     assert!(!results_in(&[(Rule::Enc, X, K), (Rule::Deca, FIRST, K)], X));
     assert!(!results_in(&[(Rule::Enca, X, PUBLIC), (Rule::Dec, FIRST, PUBLIC)], X));
+}
+
+#[test]
+fn equal_terms_have_equal_hashes() {
+    for register in [X, PUBLIC, XK, GUESS] {
+        let hashes = [(Rule::Hash, register, 0), (Rule::Hash, register, 0)];
+        assert!(results_in(&hashes, FIRST));
+        assert!(!results_in(&[hashes[0], (Rule::Hash, K, 0)], FIRST));
+        assert!(!results_in(&[hashes[0], (Rule::Hash, FIRST, 0)], FIRST));
+        assert!(!results_in(&hashes, register));
+    }
+    let of_a_reduced_term = [(Rule::Fst, XK, 0), (Rule::Hash, 6, 0), (Rule::Hash, X, 0)];
+    assert!(results_in(&of_a_reduced_term, 7));
+}
+
+#[test]
+fn nothing_reduces_a_hash() {
+    for rule in Rule::ALL {
+        assert!(!results_in(&[(Rule::Hash, X, 0), (rule, FIRST, 0)], X), "{rule:?}");
+        assert!(!results_in(&[(rule, X, 0), (Rule::Hash, FIRST, 0)], X), "{rule:?}");
+    }
+    let of_parts = [(Rule::Fst, GUESS, 0), (Rule::Snd, GUESS, 0), (Rule::Pair, 6, 7)];
+    assert!(results_in(&of_parts, GUESS));
+    let of_hashes = [(Rule::Hash, GUESS, 0), (Rule::Hash, GUESS, 0), (Rule::Pair, 6, 7)];
+    assert!(!results_in(&of_hashes, GUESS));
+}
+
+#[test]
+fn a_hash_is_a_key_as_any_term_is() {
+    let hashes = [(Rule::Hash, K, 0), (Rule::Hash, K, 0), (Rule::Hash, X, 0)];
+    let opened = |key| [&hashes[..], &[(Rule::Enc, X, 6), (Rule::Dec, 9, key)]].concat();
+    assert!(results_in(&opened(7), X));
+    assert!(!results_in(&opened(8), X));
+    assert!(!results_in(&opened(K), X));
+    let asymmetric = [&hashes[..], &[(Rule::Enca, X, 6), (Rule::Deca, 9, 7)]].concat();
+    assert!(!results_in(&asymmetric, X));
+    assert!(!signal(&hashes, Test::HasInverse, [6, 7]));
 }
 
 #[test]

@@ -40,8 +40,12 @@ fn a_fault_names_its_line() {
         ("  n\n  plain 2", "  n\n  n", 5, "`n` is listed already"),
         ("  n\n  plain 2", "  nonce\n  plain 2", 4, "`nonce` is no name"),
         ("  n\n  plain 2", "  xor n\n  plain 2", 4, "`xor` is none of plain, public, private"),
-        ("= enc(n, plain 2)", "= xor(n, plain 2)", 6, "`xor` is none of pair, enc, enca"),
+        ("= enc(n, plain 2)", "= xor(n, plain 2)", 6, "`xor` is none of pair, enc, enca, hash"),
         ("= enc(n, plain 2)", "= enc(n)", 6, "two terms are expected"),
+        ("= enc(n, plain 2)", "= hash(n, n, n)", 6, "one term is expected"),
+        ("= enc(n, plain 2)", "= hash()", 6, "no term `` is listed"),
+        ("= enc(n, plain 2)", "= hash(plain 3)", 6, "no term `plain 3` is listed"),
+        ("= enc(n, plain 2)", "= hash n", 6, "`(` is expected"),
         ("= enc(n, plain 2)", "= enc(n, plain 3)", 6, "no term `plain 3` is listed"),
         ("= enc(n, plain 2)", "= enc n, plain 2", 6, "`(` is expected"),
         ("= enc(n, plain 2)", "= record 9 9", 6, "a record has three bytes"),
@@ -50,6 +54,9 @@ fn a_fault_names_its_line() {
         ("0: n = dec", "1: n = dec", 11, "step 0 is expected"),
         ("0: n = dec", "0: n = xor", 11, "`xor` is no rule"),
         ("0: n = dec", "0: x = dec", 11, "no term `x` is listed"),
+        ("dec(message, plain 2)", "dec(message)", 11, "two terms are expected"),
+        ("dec(message, plain 2)", "hash(n, n, n)", 11, "one term is expected"),
+        ("dec(message, plain 2)", "rule9(n)", 11, "two terms are expected"),
         ("guess plain 2", "step 0", 13, "`guess` is expected"),
         ("step 0", "step 256", 14, "`256` is no number below 256"),
         ("way b", "way a", 15, "`companion` is missing"),
@@ -62,6 +69,32 @@ fn a_fault_names_its_line() {
         assert_eq!(fault.line, line, "{after}: {fault}");
         assert!(fault.message.contains(message), "{after}: {fault}");
     }
+}
+
+#[test]
+fn a_hash_has_one_term() {
+    let text = TEXT
+        .replace("enc(n, plain 2)", "hash(n)")
+        .replace("message", "t2")
+        .replace("n = dec(t2, plain 2)", "t2 = hash(n)")
+        .replace("# a comment\n\n", "");
+    let submission = assemble(&text).unwrap();
+    let bodies = Bodies::read(&submission).unwrap();
+    assert_eq!((bodies.terms[2], bodies.derivation[0]), ([7, 0, 0], [7, 0, 0, 2]));
+    assert_eq!(show(&submission), Ok(text));
+}
+
+/// What the checker refuses is written down all the same: a second term.
+#[test]
+fn a_second_term_of_a_hash_is_shown() {
+    let mut bodies = Bodies::read(&submission("M1")).unwrap();
+    bodies.terms.push([7, 0, 1]);
+    bodies.derivation.push([7, 0, 2, 3]);
+    let text = show(&bodies.submission()).unwrap();
+    for line in ["t3 = hash(plain 1, plain 2)", "1: t3 = hash(plain 1, t2)"] {
+        assert!(text.lines().any(|shown| shown.trim() == line), "{line}\n{text}");
+    }
+    assert_eq!(assemble(&text), Ok(bodies.submission()));
 }
 
 #[test]

@@ -4,7 +4,7 @@ use std::collections::HashSet;
 use std::fmt::Debug;
 use std::hash::Hash;
 
-use checker_tests::tables::{unclaimed, Body, Call, Kind, Reason, Rule, Test, Way};
+use checker_tests::tables::{unclaimed, Body, Call, Kind, Opener, Reason, Rule, Test, Way};
 
 fn assert_distinct<T: Eq + Hash + Debug>(column: impl IntoIterator<Item = T>) {
     let mut seen = HashSet::new();
@@ -39,8 +39,18 @@ fn the_columns_agree() {
         assert!(rule.builds() && Kind::built_by(rule) == Some(kind), "{kind:?}");
         assert!(kind.keys().is_empty() || rule.operands() == 2, "{kind:?}");
     }
+    assert_distinct(Kind::ALL.iter().flat_map(|kind| kind.keys()));
     for (rule, taking) in Rule::takings() {
         assert!(taking.from.builds() && taking.part < taking.from.operands(), "{rule:?}");
+        let keys = Kind::handled_by(rule).expect("what it takes apart").keys();
+        let fits = match taking.opener {
+            Opener::Nothing => rule.operands() == 1 && keys.is_empty(),
+            Opener::Key => rule.operands() == 2 && !keys.is_empty(),
+            Opener::InverseKey => {
+                rule.operands() == 2 && keys.iter().all(|key| key.inverse().is_some())
+            }
+        };
+        assert!(fits, "{rule:?}");
     }
     for reason in Reason::ALL {
         assert!(Call::ALL.iter().any(|call| call.refusals().contains(&reason)), "{reason:?}");

@@ -141,8 +141,10 @@ impl Table {
 
     /// The numbers of two operands, or of as many as the rule uses.
     fn operands(&self, rule: Option<Rule>, texts: &[&str]) -> Parsed<[u8; 2]> {
-        if texts.len() != 2 && rule.map(Rule::operands) != Some(texts.len()) {
-            return Err("two terms are expected between the brackets".to_string());
+        let uses = rule.map_or(2, Rule::operands);
+        if texts.len() != 2 && texts.len() != uses {
+            let terms = if uses == 1 { "one term is" } else { "two terms are" };
+            return Err(format!("{terms} expected between the brackets"));
         }
         let numbers: Vec<u8> = texts.iter().map(|text| self.number(text)).collect::<Parsed<_>>()?;
         Ok(padded(&numbers))

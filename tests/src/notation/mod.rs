@@ -4,8 +4,8 @@
 //! lines that start with `#`, are passed over.
 //!
 //! - Terms, one a line and numbered from 0: an atom is `nb`, `plain 7`, `public ka` or
-//!   `private ka`; a compound is `LABEL = pair(X, Y)`, `enc(X, Y)` or `enca(X, Y)`. Further lines
-//!   name an atom as it is listed, and a compound by its label.
+//!   `private ka`; a compound is `LABEL = pair(X, Y)`, `enc(X, Y)`, `enca(X, Y)` or `hash(X)`.
+//!   Further lines name an atom as it is listed, and a compound by its label.
 //! - Knowledge: one term a line.
 //! - Derivation: `NUMBER: CONCLUSION = RULE(PREMISE, PREMISE)`, numbered from 0.
 //! - Claim: the lines `guess TERM`, `step NUMBER`, `way LETTER`, and `companion` with a step number

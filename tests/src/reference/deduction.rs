@@ -3,18 +3,26 @@
 use std::collections::{HashMap, HashSet};
 
 use super::term::{Store, Term};
-use crate::tables::Opener;
+use crate::tables::{Kind, Opener};
 
 /// The terms that taking apart reaches from the knowledge. Anything else that is deducible is
 /// built from these.
 pub struct Deduction {
     known: HashSet<Term>,
+    /// What is under a key of these kinds stays shut.
+    shut: Vec<Kind>,
 }
 
 impl Deduction {
     /// Takes apart what is known until nothing more opens.
     pub fn from_knowledge(store: &mut Store, knowledge: &[Term]) -> Deduction {
-        let mut deduction = Deduction { known: knowledge.iter().cloned().collect() };
+        Deduction::without_keys(store, knowledge, &[])
+    }
+
+    /// The same, as if no key of these kinds opened anything.
+    pub fn without_keys(store: &mut Store, knowledge: &[Term], shut: &[Kind]) -> Deduction {
+        let known = knowledge.iter().cloned().collect();
+        let mut deduction = Deduction { known, shut: shut.to_vec() };
         let mut whole = knowledge.to_vec();
         loop {
             let mut parts = Vec::new();
@@ -47,15 +55,16 @@ impl Deduction {
             .collect()
     }
 
-    /// Whether what opens a term with these operands is deducible.
+    /// Whether what opens a term with these operands is deducible. A key need not be known: it may
+    /// be built.
     fn opens(&self, store: &mut Store, opener: Opener, operands: &[Term]) -> bool {
-        match opener {
-            Opener::Nothing => true,
-            Opener::Key => self.reaches(&operands[1]),
-            Opener::InverseKey => {
-                store.inverse(&operands[1]).is_some_and(|inverse| self.reaches(&inverse))
-            }
-        }
+        let opening = match opener {
+            Opener::Nothing => return true,
+            Opener::Key => Some(operands[1].clone()),
+            Opener::InverseKey => store.inverse(&operands[1]),
+        };
+        let is_shut = operands[1].kind().is_some_and(|kind| self.shut.contains(&kind));
+        !is_shut && opening.is_some_and(|key| self.reaches(&key))
     }
 
     /// As `reaches`, with the answers found so far.

@@ -22,7 +22,7 @@ use program::Program;
 use refusal::refuse;
 use submission::Submission;
 
-use crate::tables::Reason;
+use crate::tables::{Kind, Reason};
 
 pub use refusal::{code, Checked, Refusal, REFUSAL};
 pub use submission::records;
@@ -49,6 +49,23 @@ pub fn deducible(submission: &[u8], number: u8) -> Checked<bool> {
         Some(term) => Ok(deduction.reaches(term)),
         None => refuse(Reason::NoSuchTerm, 0),
     }
+}
+
+/// The kinds of key on which it depends that the term with this number is deducible: it would not
+/// be if what is under keys of one such kind stayed shut.
+pub fn needed_keys(submission: &[u8], number: u8) -> Checked<Vec<Kind>> {
+    let mut submission = Submission::read(submission)?;
+    let Some(term) = submission.term(number).cloned() else {
+        return refuse(Reason::NoSuchTerm, 0);
+    };
+    let mut is_deducible_without = |shut: &[Kind]| {
+        Deduction::without_keys(&mut submission.store, &submission.knowledge, shut).reaches(&term)
+    };
+    let keys = Kind::locking();
+    if is_deducible_without(&keys) {
+        return Ok(vec![]);
+    }
+    Ok(keys.into_iter().filter(|&kind| !is_deducible_without(&[kind])).collect())
 }
 
 /// The signal of the program when the guess has this name.

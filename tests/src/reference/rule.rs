@@ -12,7 +12,8 @@ pub fn taken_apart(rule: Rule, operands: &[Term]) -> Option<Term> {
 }
 
 /// The term out of which the rules that take apart took the operands: t for pair(fst t, snd t),
-/// enc(dec(t, k), k), and enca(deca(t, j), k) with inverse keys.
+/// enc(dec(t, k), k), and enca(deca(t, j), k) with inverse keys. Nothing takes a hash apart, so
+/// there is none for it.
 pub fn put_together(rule: Rule, operands: &[Term]) -> Option<Term> {
     let mut wholes = rule.takers().map(|(taker, Taking { part, opener, .. })| {
         let taken_from = operands[part].operands_of(taker)?;

@@ -11,9 +11,11 @@ table! {
         word: &'static str,
         /// The kind of the inverse, for a key that has one.
         inverse: Option<Kind>,
-        /// The rule that builds the compound from the terms that the two bytes number.
+        /// The rule that builds the compound from the terms that the two bytes number, or the
+        /// first of them: the rule's operands.
         rule: Option<Rule>,
-        /// The kinds that the second of these terms may have, where it is a key.
+        /// The kinds that the second of these terms may have, where it is a key. What may be a
+        /// key of one kind of compound is none of another.
         keys: &'static [Kind],
     }
     Plain   { number: 1, word: "plain",   inverse: None,                rule: None, keys: &[] }
@@ -21,9 +23,10 @@ table! {
     Private { number: 3, word: "private", inverse: Some(Kind::Public),  rule: None, keys: &[] }
     Pair    { number: 4, word: Rule::Pair.word(), inverse: None, rule: Some(Rule::Pair), keys: &[] }
     Enc     { number: 5, word: Rule::Enc.word(),  inverse: None, rule: Some(Rule::Enc),
-              keys: &[Kind::Plain] }
+              keys: &[Kind::Plain, Kind::Hash] }
     Enca    { number: 6, word: Rule::Enca.word(), inverse: None, rule: Some(Rule::Enca),
               keys: &[Kind::Public, Kind::Private] }
+    Hash    { number: 7, word: Rule::Hash.word(), inverse: None, rule: Some(Rule::Hash), keys: &[] }
 }
 
 impl Kind {
@@ -34,6 +37,11 @@ impl Kind {
     /// The kind of the compounds that the rule builds.
     pub fn built_by(rule: Rule) -> Option<Kind> {
         Kind::ALL.into_iter().find(|kind| kind.rule() == Some(rule))
+    }
+
+    /// The kind of the compounds that the rule builds or takes apart.
+    pub fn handled_by(rule: Rule) -> Option<Kind> {
+        Kind::built_by(rule.takes().map_or(rule, |taking| taking.from))
     }
 
     /// The kind of the compounds of which a term of this kind may be the key.
@@ -47,6 +55,11 @@ impl Kind {
 
     pub fn atoms() -> Vec<Kind> {
         Kind::ALL.into_iter().filter(|kind| kind.is_atom()).collect()
+    }
+
+    /// The kinds of which a term may be a key.
+    pub fn locking() -> Vec<Kind> {
+        Kind::ALL.into_iter().filter(|&kind| Kind::locked_by(kind).is_some()).collect()
     }
 
     /// The kinds of compound, each with the rule that builds it.

@@ -18,6 +18,7 @@ table! {
     Dec  { number: 4, word: "dec",  operands: 2, takes: part(0, Rule::Enc, Opener::Key) }
     Enca { number: 5, word: "enca", operands: 2, takes: None }
     Deca { number: 6, word: "deca", operands: 2, takes: part(0, Rule::Enca, Opener::InverseKey) }
+    Hash { number: 7, word: "hash", operands: 1, takes: None }
 }
 
 /// What a rule takes out of its first premise.
@@ -62,7 +63,7 @@ impl Rule {
         Rule::ALL.into_iter().filter_map(|rule| Some((rule, rule.takes()?)))
     }
 
-    /// The rules that take apart what this one builds.
+    /// The rules that take apart what this one builds; none for a one-way function.
     pub fn takers(self) -> impl Iterator<Item = (Rule, Taking)> {
         Rule::takings().filter(move |(_, taking)| taking.from == self)
     }
