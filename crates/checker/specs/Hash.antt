@@ -24,18 +24,19 @@ pub record HashPromise : Type 1 where
       (qAt s i ≡ 0) × ((concluded s i ≡ hashOf (firstPremise s i)) × ((x : Term) → Premise s i x → x ≡ firstPremise s i))
   -- y of a hash is no part of it
   pub parts : (x t : Term) → Part x (hashOf t) ↔ ((x ≡ hashOf t) ⊎ Part x t)
-  -- "A hash may be the key of kind 5", and of no other
-  pub key : (t x : Term) → Step (make (encryption symmetric)) t (hashOf x) (encOf t (hashOf x))
-  pub key-of-5-alone : (t x c : Term) → Step (make (encryption asymmetric)) t (hashOf x) c → ⊥
+  -- "A hash may be the key of kind 5", and not of kind 6
+  pub keyOf5 : (t x : Term) → Step (make (encryption symmetric)) t (hashOf x) (encOf t (hashOf x))
+  pub notOf6 : (t x c : Term) → Step (make (encryption asymmetric)) t (hashOf x) c → ⊥
   -- under such a key a term is opened when the key can be built; the key need not be known
   pub built : (K : Term → Type 0) (x : Term) → Deducible K x → Deducible K (hashOf x)
   pub opened : (K : Term → Type 0) (t x : Term) → Deducible K (encOf t (hashOf x)) → Deducible K x → Deducible K t
   -- "Nothing undoes a hash", and a hash undoes nothing
   pub kept : (h : Head) (p t p′ t′ : Term) → Undoes h p t (make hash) p′ t′ → ⊥
+  pub keeps : (h : Head) (p t p′ t′ : Term) → Undoes (make hash) p t h p′ t′ → ⊥
   -- whatever a step concludes from a hash is built over it: nothing is taken out
   pub shut : (h : Head) (x q c : Term) → Step h (hashOf x) q c → (f : Form) × (c ≡ node (make f) (hashOf x) q)
   -- one way: a hash alone does not give its operand
-  pub one-way : (x : Term) → Deducible (λ t. t ≡ hashOf x) x → ⊥
+  pub oneWay : (x : Term) → Deducible (λ t. t ≡ hashOf x) x → ⊥
   -- "the machine has no reduction for it"
   pub unreduced : (a b : Term) → op (make hash) a b ≡ node (make hash) a b
   -- "it prints with one register", after the word hash in ASCII

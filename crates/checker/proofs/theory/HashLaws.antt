@@ -111,13 +111,14 @@ hash-promise = record {
   listed = hash-listed;
   concludes = hash-concludes;
   parts = hash-parts;
-  key = λ t x. (refl, refl);
-  key-of-5-alone = λ t x c s. false≢true (s .0);
+  keyOf5 = λ t x. (refl, refl);
+  notOf6 = λ t x c s. false≢true (s .0);
   built = hash-built;
   opened = hash-opened;
   kept = hash-kept;
+  keeps = λ h p t p′ t′ u. hash-kept h p′ t′ p t (⊎-elim (λ e. inr e) (λ e. inl e) u);
   shut = hash-shut;
-  one-way = alone-hides;
+  oneWay = alone-hides;
   unreduced = λ a b. refl;
   printed = hash-printed;
 }
