@@ -5,11 +5,11 @@ use std::collections::HashSet;
 
 use checker_tests::bodies::Bodies;
 use checker_tests::generate::Source;
-use checker_tests::reference::deducible;
+use checker_tests::reference::{deducible, needed_keys};
 use checker_tests::tables::{Kind, Opener, Rule};
 
 /// The largest terms that are built, by the number of atoms and compounds in them.
-const LARGEST: usize = 5;
+const LARGEST: usize = 6;
 
 #[derive(Clone, PartialEq, Eq, Hash)]
 enum Term {
@@ -59,10 +59,11 @@ fn reached(knowledge: impl Iterator<Item = Term>) -> HashSet<Term> {
     let mut known: HashSet<Term> = knowledge.collect();
     loop {
         let mut more: HashSet<Term> = known.iter().flat_map(|term| taken(term, &known)).collect();
-        for x in &known {
-            for y in &known {
-                more.extend(built(x, y));
-            }
+        let sized: Vec<(&Term, usize)> = known.iter().map(|term| (term, term.size())).collect();
+        for &(x, size) in sized.iter().filter(|(_, size)| *size < LARGEST) {
+            more.extend(built(&[x]));
+            let beside = sized.iter().filter(|(_, other)| size + other < LARGEST);
+            more.extend(beside.flat_map(|(y, _)| built(&[x, y])));
         }
         let before = known.len();
         known.extend(more);
@@ -91,14 +92,13 @@ fn taken(term: &Term, known: &HashSet<Term>) -> Vec<Term> {
     parts
 }
 
-/// What the rules build from the first of the terms, or from both, up to the size.
-fn built(x: &Term, y: &Term) -> Vec<Term> {
+/// What the rules build from these terms.
+fn built(operands: &[&Term]) -> Vec<Term> {
     let mut terms = Vec::new();
     for (kind, rule) in Kind::compounds() {
-        let operands = &[x, y][..rule.operands()];
-        let size = 1 + operands.iter().map(|operand| operand.size()).sum::<usize>();
-        let is_keyed = kind.keys().is_empty() || kind.keys().contains(&y.kind());
-        if size <= LARGEST && is_keyed {
+        let fits = rule.operands() == operands.len()
+            && (kind.keys().is_empty() || kind.keys().contains(&operands[1].kind()));
+        if fits {
             terms.push(Term::Compound(kind, operands.iter().map(|&term| term.clone()).collect()));
         }
     }
@@ -116,8 +116,8 @@ fn small(submission: &[u8]) -> Option<(Bodies, Vec<Term>)> {
 #[test]
 fn small_submissions_agree_with_the_definition() {
     let mut source = Source::new(11);
-    let mut tried = 0;
-    while tried < 500 {
+    let (mut tried, mut by_hash) = (0, 0);
+    while tried < 1000 {
         let submission = source.next_input().submission;
         let Some((bodies, terms)) = small(&submission) else {
             continue;
@@ -127,7 +127,10 @@ fn small_submissions_agree_with_the_definition() {
         for (number, term) in terms.iter().enumerate() {
             let expected = Ok(reached.contains(term));
             assert_eq!(deducible(&submission, number as u8), expected, "{number} of {bodies:?}");
+            let needed = needed_keys(&submission, number as u8).expect("the term is listed");
+            by_hash += usize::from(expected == Ok(true) && needed.contains(&Kind::Hash));
         }
         tried += 1;
     }
+    assert!(by_hash > 20, "{by_hash} terms depend on a hash as a key");
 }

@@ -4,7 +4,7 @@ use super::random::Random;
 use super::steps::{around, builds};
 use super::table::Table;
 use crate::bodies::Bodies;
-use crate::tables::{unclaimed, Kind, Way, CONTENTS_SIZE};
+use crate::tables::{unclaimed, Kind, Rule, Way, CONTENTS_SIZE};
 
 /// The bodies with one change to their records.
 pub fn changed_records(random: &mut Random, bodies: &Bodies) -> Bodies {
@@ -12,13 +12,16 @@ pub fn changed_records(random: &mut Random, bodies: &Bodies) -> Bodies {
     let change = [
         change_term,
         repeat_term,
+        change_operand,
+        fill_term,
         change_knowledge,
         change_step,
+        fill_step,
         move_step,
         repeat_step,
         undo_step,
         change_claim,
-    ][random.weighted(&[12, 6, 18, 16, 10, 6, 18, 14])];
+    ][random.weighted(&[12, 6, 12, 4, 18, 16, 6, 10, 6, 18, 14])];
     change(random, &mut changed);
     changed
 }
@@ -70,6 +73,51 @@ fn change_record(random: &mut Random, record: &mut [u8], bad: &[u8]) {
 fn repeat_term(random: &mut Random, bodies: &mut Bodies) {
     let record = random.pick(&bodies.terms);
     bodies.terms.push(record);
+}
+
+/// Lets a compound be made from another term than before, listed before it or after, or from itself.
+/// A key may become one that does not fit.
+fn change_operand(random: &mut Random, bodies: &mut Bodies) {
+    let compounds: Vec<(usize, Rule)> = (0..bodies.terms.len())
+        .filter_map(|number| Some((number, builder(bodies.terms[number][0])?)))
+        .collect();
+    if compounds.is_empty() {
+        return;
+    }
+    let (compound, rule) = random.pick(&compounds);
+    let other = if random.chance(25) { compound } else { random.below(bodies.terms.len()) };
+    bodies.terms[compound][1 + random.below(rule.operands())] = other as u8;
+}
+
+/// The rule that builds the compounds of the kind with this number.
+fn builder(kind: u8) -> Option<Rule> {
+    Kind::from_number(kind).and_then(Kind::rule)
+}
+
+fn fill_term(random: &mut Random, bodies: &mut Bodies) {
+    fill_unused(random, &mut bodies.terms, builder);
+}
+
+fn fill_step(random: &mut Random, bodies: &mut Bodies) {
+    fill_unused(random, &mut bodies.derivation, Rule::from_number);
+}
+
+/// Puts a number in the place of a 0 that is no operand, if one of the records has such. The first
+/// byte gives the rule, and the next two have its operands.
+pub fn fill_unused<const N: usize>(
+    random: &mut Random,
+    records: &mut [[u8; N]],
+    rule: impl Fn(u8) -> Option<Rule>,
+) {
+    let mut unused: Vec<&mut u8> = records
+        .iter_mut()
+        .filter(|record| rule(record[0]).is_some_and(|rule| rule.operands() == 1))
+        .map(|record| &mut record[2])
+        .collect();
+    if !unused.is_empty() {
+        let at = random.below(unused.len());
+        *unused[at] = random.between(1, 3) as u8;
+    }
 }
 
 fn change_knowledge(random: &mut Random, bodies: &mut Bodies) {

@@ -17,20 +17,24 @@ pub fn deepest() -> Vec<(String, Input)> {
     }
     titled.extend([
         ("the most steps, taking apart".to_string(), shapes::largest()),
-        ("the most steps, building".to_string(), shapes::largest_built()),
+        ("the most steps, building".to_string(), shapes::largest_built(Nesting::Enca)),
+        ("the most steps, hashing".to_string(), shapes::largest_built(Nesting::Hashes)),
         ("doubling pairs known".to_string(), shapes::doubling_known(Body::Terms.most())),
+        ("hashes of the guess".to_string(), shapes::built(Nesting::Hashes, Body::Terms.most(), 1)),
+        ("a key of hashes of a known atom".to_string(), shapes::locked_by_hashes(true)),
+        ("a key of hashes of a hidden atom".to_string(), shapes::locked_by_hashes(false)),
     ]);
     titled.into_iter().map(|(title, bodies)| (title, input(&bodies))).collect()
 }
 
-/// Asks for the last two terms, of which one is the deepest, for the first and for one too many.
+/// Asks for the last three terms, of which one is the deepest, for the first and for one too many.
 fn input(bodies: &Bodies) -> Input {
     let submission = bodies.submission();
     let right = right_name(&submission);
     let terms = bodies.terms.len() as u8;
     Input {
         page: vec![0xA5; LONGEST_PROGRAM],
-        asked: vec![terms - 2, terms - 1, 0, terms],
+        asked: vec![terms - 3, terms - 2, terms - 1, 0, terms],
         runs: programs(bodies).into_iter().map(|program| (right, program)).collect(),
         right,
         names: vec![u16::MAX],

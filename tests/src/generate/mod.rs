@@ -18,7 +18,7 @@ use crate::tables::{program_length, Body, LONGEST_PROGRAM};
 use program::Registers;
 use protocol::{protocol, Size};
 use random::Random;
-use shapes::Order;
+use shapes::{Nesting, Order, Secrets};
 
 pub use deepest::deepest;
 pub use form::Form;
@@ -137,13 +137,21 @@ impl Source {
 
     fn shape(&mut self) -> Bodies {
         let size = self.random.between(4, Body::Terms.most());
-        let order = self.random.pick(&[Order::Rising, Order::Falling]);
-        match self.random.below(6) {
+        let (_, order) = self.random.pick(&Order::ALL);
+        let (_, secrets) = self.random.pick(&Secrets::ALL);
+        let depth = self.random.between(1, 4);
+        match self.random.below(9) {
             0 => shapes::doubling_known(size),
             1 => shapes::doubling_asked(size),
             2 => shapes::private_key_chain(size / 4, order),
             3 => shapes::plain_key_chain(size / 5, self.random.below(70), order),
             4 => shapes::nested_pairs(size / 2, self.random.below(size / 4), size / 5),
+            5 => {
+                let most = Body::Derivation.most().min(size - 1);
+                shapes::built(Nesting::Hashes, size, self.random.between(1, most))
+            }
+            6 => shapes::hash_key_chain(secrets, size / (depth + 3), depth, order),
+            7 => shapes::nested_hash_keys(size / (depth + 4), depth),
             _ => shapes::largest(),
         }
     }

@@ -1,6 +1,6 @@
 //! Programs for the machine.
 
-use super::damage::change_byte;
+use super::damage::{change_byte, fill_unused};
 use super::random::Random;
 use super::table::Table;
 use crate::bodies::Bodies;
@@ -27,10 +27,10 @@ impl Registers {
     }
 }
 
-/// A program that run takes: each rule occurs, often two that cancel, and often the test looks at
-/// what they leave.
+/// A program that run takes: each rule occurs, often two that cancel or one twice, and often the
+/// test looks at what they leave.
 pub fn valid(random: &mut Random, registers: &Registers) -> Vec<u8> {
-    let most = if random.chance(3) { MOST_INSTRUCTIONS } else { 12 };
+    let most = if random.chance(3) { MOST_INSTRUCTIONS } else { 15 };
     let count = random.between(0, most);
     let mut writer = Writer { random, registers, instructions: Vec::new(), compared: [0, 0] };
     while writer.instructions.len() + LONGEST_MOTIF <= count {
@@ -62,12 +62,17 @@ pub fn repeated(rule: Rule, guess: u8, second: impl Fn(u8) -> u8) -> Vec<u8> {
 /// A program with something changed, or plain bytes.
 pub fn damaged(random: &mut Random, program: &[u8]) -> Vec<u8> {
     let mut changed = program.to_vec();
-    match random.weighted(&[50, 10, 10, 10, 5, 15]) {
+    match random.weighted(&[45, 10, 10, 10, 10, 5, 10]) {
         0 => change_byte(random, &mut changed),
         1 => misname(random, &mut changed),
-        2 => changed.truncate(random.below(program.len())),
-        3 => changed.push(random.byte()),
-        4 => changed = too_long(random),
+        2 => fill_unused(
+            random,
+            changed[1..].as_chunks_mut::<INSTRUCTION_SIZE>().0,
+            Rule::from_number,
+        ),
+        3 => changed.truncate(random.below(program.len())),
+        4 => changed.push(random.byte()),
+        5 => changed = too_long(random),
         _ => {
             let length = random.below(14);
             changed = random.bytes(length);
@@ -93,8 +98,8 @@ fn too_long(random: &mut Random) -> Vec<u8> {
     program
 }
 
-/// How many instructions a motif has at most.
-const LONGEST_MOTIF: usize = 3;
+/// How many instructions a motif has at most: three, and two for its keys.
+const LONGEST_MOTIF: usize = 5;
 
 struct Writer<'a> {
     random: &'a mut Random,
@@ -105,14 +110,18 @@ struct Writer<'a> {
 }
 
 impl Writer<'_> {
-    /// Instructions of which the last may cancel the others, or a single one.
+    /// Instructions of which the last may cancel the others, two that are alike, or a single one.
     fn motif(&mut self) {
-        let term = self.register();
+        let mut term = self.register();
         let takings: Vec<_> = Rule::takings().collect();
         let (taker, taking) = self.random.pick(&takings);
-        match self.random.below(7) {
+        match self.random.below(8) {
             0..3 => self.build_and_take(term, taker, taking),
             3..6 => self.take_and_build(term, taking.from),
+            6 => {
+                let rule = self.random.pick(&Rule::ALL);
+                [term, _] = self.twice(rule);
+            }
             _ => self.single(),
         }
         self.compared = [self.written() - 1, term];
@@ -138,16 +147,23 @@ impl Writer<'_> {
         self.emit(builder, operands);
     }
 
-    /// Inverse keys, one register twice, or any two.
+    /// Inverse keys, one register twice, two hashes of one, or any two.
     fn keys(&mut self) -> [u8; 2] {
         let key = self.register();
-        match self.random.below(5) {
+        match self.random.below(6) {
             0 | 1 if !self.registers.inverse.is_empty() => {
                 self.random.pick(&self.registers.inverse)
             }
             2 | 3 => [key, key],
+            4 => self.twice(Rule::Hash),
             _ => [key, self.register()],
         }
+    }
+
+    /// The rule twice over the same registers. Answers the registers of the two results.
+    fn twice(&mut self, rule: Rule) -> [u8; 2] {
+        let operands = [self.register(), self.register()];
+        [self.emit(rule, operands), self.emit(rule, operands)]
     }
 
     fn single(&mut self) {

@@ -88,22 +88,26 @@ fn any_term(random: &mut Random, table: &Table) -> u8 {
     (count - 1 - random.below(span)) as u8
 }
 
-/// A listed key of one of the kinds, often the guess or its inverse.
+/// A listed key of one of the kinds, often the guess, its inverse, or one that is made from the
+/// guess.
 fn key(random: &mut Random, table: &Table, guess: u8, kinds: &[Kind]) -> Option<u8> {
     let all = table.of_kinds(kinds);
+    let having = table.having(guess);
     let near: Vec<u8> = all
         .iter()
         .copied()
-        .filter(|&number| number == guess || table.inverse(guess) == Some(number))
+        .filter(|&number| having[usize::from(number)] || table.inverse(guess) == Some(number))
         .collect();
     let from = if near.is_empty() || random.chance(35) { all } else { near };
     (!from.is_empty()).then(|| random.pick(&from))
 }
 
 /// Messages that may verify the guess in this way: two that hide the same term, one that hides a
-/// term that is known, or one that hides a key whose inverse is known or hidden as well.
+/// term that is known, or one that hides a key whose inverse is known or hidden as well. Now and then
+/// the guess gives the term too, without the message.
 fn telling_messages(random: &mut Random, table: &mut Table, guess: u8, way: Way) -> Vec<u8> {
-    let term = any_term(random, table);
+    let term =
+        if random.chance(20) { hashed(random, table, guess) } else { any_term(random, table) };
     match way {
         Way::AnotherStep => {
             vec![hidden(random, table, guess, term), hidden(random, table, guess, term)]
@@ -128,11 +132,31 @@ fn hidden(random: &mut Random, table: &mut Table, guess: u8, term: u8) -> u8 {
         let parts = random.pick(&[[message, beside], [beside, message]]);
         message = table.compound(Kind::Pair, &parts);
     }
-    let (opener, name) = table.as_atom(guess).expect("the guess is an atom");
-    let key_kind = opener.inverse().unwrap_or(opener);
-    let kind = Kind::locked_by(key_kind).expect("every atom may be a key");
-    let key = table.atom(key_kind, name);
+    let key = key_opened_by(random, table, guess);
+    let kind = table.kind(key).and_then(Kind::locked_by).expect("what it locks");
     table.compound(kind, &[message, key])
+}
+
+/// A key that locks what the guess opens: itself, its inverse, or a hash that it gives.
+fn key_opened_by(random: &mut Random, table: &mut Table, guess: u8) -> u8 {
+    if random.chance(35) {
+        return hashed(random, table, guess);
+    }
+    let (kind, name) = table.as_atom(guess).expect("the guess is an atom");
+    table.atom(kind.inverse().unwrap_or(kind), name)
+}
+
+/// A hash of the guess, or of a pair of it and another term; now and then a hash of that.
+fn hashed(random: &mut Random, table: &mut Table, guess: u8) -> u8 {
+    let mut hashed = guess;
+    if random.chance(30) {
+        let beside = any_term(random, table);
+        hashed = table.compound(Kind::Pair, &random.pick(&[[guess, beside], [beside, guess]]));
+    }
+    for _ in 0..random.pick(&[1, 1, 1, 2, 3]) {
+        hashed = table.compound(Kind::Hash, &[hashed]);
+    }
+    hashed
 }
 
 /// The telling messages and some other terms, compounds rather than atoms, and seldom the guess.
@@ -160,6 +184,7 @@ fn walk(
     most: usize,
 ) -> Vec<[u8; 4]> {
     let mut walk = Walk {
+        keys: Known::new(table, table.of_kinds(&Kind::locking())),
         known: Known::new(table, knowledge.iter().copied().chain([guess])),
         guessed: Known::new(table, [guess]),
         steps: Vec::new(),
@@ -176,6 +201,8 @@ fn walk(
 }
 
 struct Walk {
+    /// The terms that may be keys.
+    keys: Known,
     known: Known,
     /// What is known by steps that use the guess.
     guessed: Known,
@@ -191,8 +218,8 @@ impl Walk {
         self.steps.push(step);
     }
 
-    /// Rather take apart than build, rather use the guess, rather reach something new; seldom
-    /// repeat a step.
+    /// Rather take apart than build, rather build a key than something else, rather use the guess,
+    /// rather reach something new; seldom repeat a step.
     fn weight(&self, step: [u8; 4]) -> usize {
         if self.steps.contains(&step) {
             return 1;
@@ -201,6 +228,7 @@ impl Walk {
             (false, false) => 40,
             (false, true) => 30,
             (true, true) => 15,
+            (true, false) if self.keys.has(step[3]) => 10,
             (true, false) => 3,
         };
         if self.uses_guess(step) {

@@ -2,7 +2,7 @@
 //! and the search for what is deducible goes on until nothing more opens.
 
 use super::limits::padded;
-use super::steps::{around, step};
+use super::steps::{building, step};
 use super::table::Table;
 use crate::bodies::Bodies;
 use crate::tables::{Body, Kind, Rule, Way};
@@ -35,6 +35,11 @@ impl Frame {
     /// A fresh atom of this kind; atoms of both key kinds with one index are inverse.
     fn atom(&mut self, kind: Kind, index: usize) -> u8 {
         self.table.atom(kind, FRESH + index as u16)
+    }
+
+    /// The term hashed so many times.
+    fn hashed(&mut self, term: u8, times: usize) -> u8 {
+        (0..times).fold(term, |inner, _| self.table.compound(Kind::Hash, &[inner]))
     }
 
     /// Makes the messages known, in pairs where there are too many.
@@ -80,24 +85,26 @@ pub fn largest() -> Bodies {
     }
 }
 
-/// Accepted, with all counts at their limits: steps that encrypt the guess again and again under a
-/// public key whose inverse is not listed, up to an encryption that is known.
-pub fn largest_built() -> Bodies {
+/// The guess, and compounds nested around it up to `terms` terms. The steps build so many of these,
+/// and the last of them is known. Accepted where nothing takes it apart.
+pub fn built(nesting: Nesting, terms: usize, steps: usize) -> Bodies {
     let mut table = Table::default();
     let guess = table.atom(Kind::Plain, 0);
-    let key = table.atom(Kind::Public, 0);
-    let steps = Body::Derivation.most();
-    let mut nested = vec![guess];
-    for level in 0..steps {
-        nested.push(table.compound(Kind::Enca, &[nested[level], key]));
-    }
-    let building = nested.windows(2).map(|terms| step(Rule::Enca, &[terms[0], key], terms[1]));
-    let bodies = Bodies {
-        terms: table.records,
-        knowledge: vec![nested[steps], key],
-        derivation: building.collect(),
+    let beside = table.atom(nesting.beside(), 0);
+    let nested = nesting.nest(&mut table, guess, beside, terms);
+    let known_atom = Some(beside).filter(|&atom| atom != guess);
+    Bodies {
+        knowledge: [nested[steps - 1]].into_iter().chain(known_atom).collect(),
+        derivation: nested[..steps].iter().map(|&term| building(&table, term)).collect(),
         claim: [guess, (steps - 1) as u8, Way::KnownBefore.letter(), 0],
-    };
+        terms: table.records,
+    }
+}
+
+/// The same with the most steps, and with all counts at their limits.
+pub fn largest_built(nesting: Nesting) -> Bodies {
+    let steps = Body::Derivation.most();
+    let bodies = built(nesting, steps + 2, steps);
     padded(&bodies, Body::Terms.most(), Body::Knowledge.most(), steps)
 }
 
@@ -110,16 +117,20 @@ pub enum Nesting {
     DoublingPairs,
     Enc,
     Enca,
+    Hashes,
+    HashedKeys,
 }
 
 impl Nesting {
-    pub const ALL: [(&'static str, Nesting); 6] = [
+    pub const ALL: [(&'static str, Nesting); 8] = [
         ("pairs nested on the left", Nesting::LeftPairs),
         ("pairs nested on the right", Nesting::RightPairs),
         ("pairs nested on either side", Nesting::AlternatingPairs),
         ("pairs nested on both sides", Nesting::DoublingPairs),
         ("nested enc", Nesting::Enc),
         ("nested enca", Nesting::Enca),
+        ("hashes of hashes", Nesting::Hashes),
+        ("keys that are hashes of what such keys lock", Nesting::HashedKeys),
     ];
 
     /// The kind of the atom beside each term, which is the key of an encryption.
@@ -131,28 +142,33 @@ impl Nesting {
     }
 
     /// The kind of the compound at this level, and its operands.
-    fn compound(self, level: usize, former: u8, beside: u8) -> (Kind, [u8; 2]) {
+    fn compound(self, level: usize, former: u8, beside: u8) -> (Kind, Vec<u8>) {
+        let is_odd = level % 2 == 1;
         match self {
-            Nesting::LeftPairs => (Kind::Pair, [former, beside]),
-            Nesting::RightPairs => (Kind::Pair, [beside, former]),
+            Nesting::LeftPairs => (Kind::Pair, vec![former, beside]),
+            Nesting::RightPairs => (Kind::Pair, vec![beside, former]),
             Nesting::AlternatingPairs => {
-                let side = if level % 2 == 1 { Nesting::LeftPairs } else { Nesting::RightPairs };
+                let side = if is_odd { Nesting::LeftPairs } else { Nesting::RightPairs };
                 side.compound(level, former, beside)
             }
-            Nesting::DoublingPairs => (Kind::Pair, [former, former]),
-            Nesting::Enc => (Kind::Enc, [former, beside]),
-            Nesting::Enca => (Kind::Enca, [former, beside]),
+            Nesting::DoublingPairs => (Kind::Pair, vec![former, former]),
+            Nesting::Enc => (Kind::Enc, vec![former, beside]),
+            Nesting::Enca => (Kind::Enca, vec![former, beside]),
+            Nesting::HashedKeys if !is_odd => (Kind::Enc, vec![beside, former]),
+            Nesting::HashedKeys | Nesting::Hashes => (Kind::Hash, vec![former]),
         }
     }
 
-    /// Nests the innermost term until the table has this many terms. Answers the last.
-    fn nest(self, table: &mut Table, innermost: u8, beside: u8, terms: usize) -> u8 {
+    /// Nests the innermost term until the table has this many terms. Answers the compounds.
+    fn nest(self, table: &mut Table, innermost: u8, beside: u8, terms: usize) -> Vec<u8> {
         let mut top = innermost;
-        for level in table.records.len()..terms {
-            let (kind, operands) = self.compound(level, top, beside);
-            top = table.compound(kind, &operands);
-        }
-        top
+        (table.records.len()..terms)
+            .map(|level| {
+                let (kind, operands) = self.compound(level, top, beside);
+                top = table.compound(kind, &operands);
+                top
+            })
+            .collect()
     }
 }
 
@@ -164,24 +180,35 @@ pub fn tower(nesting: Nesting) -> Bodies {
     Bodies { terms: table.records, knowledge: vec![atom], ..Bodies::default() }
 }
 
-/// A deep term that is hidden under the guess; the last of two steps takes it apart. It can be built
-/// without the guess where its innermost atom is known.
+/// A deep term that is hidden under the guess; the last of two steps hashes it, and the hash is
+/// known. Accepted, unless the term can be built without the guess: where its innermost atom is
+/// known.
 pub fn nested(nesting: Nesting, known: bool) -> Bodies {
     let mut table = Table::default();
     let guess = table.atom(Kind::Plain, 0);
     let innermost = table.atom(Kind::Plain, 1);
     let beside = table.atom(nesting.beside(), 2);
-    let inverse = nesting.beside().inverse().map(|kind| table.atom(kind, 2));
-    let top = nesting.nest(&mut table, innermost, beside, Body::Terms.most() - 1);
+    let nested = nesting.nest(&mut table, innermost, beside, Body::Terms.most() - 2);
+    let top = nested[nested.len() - 1];
     let message = table.compound(Kind::Enc, &[top, guess]);
-    let taking = around(&table, top).pop().expect("a step that takes the compound apart");
-    let atoms = [Some(beside), inverse, known.then_some(innermost)];
+    let hash = table.compound(Kind::Hash, &[top]);
     Bodies {
         terms: table.records,
-        knowledge: [message].into_iter().chain(atoms.into_iter().flatten()).collect(),
-        derivation: vec![step(Rule::Dec, &[message, guess], top), taking],
+        knowledge: [message, hash, beside].into_iter().chain(known.then_some(innermost)).collect(),
+        derivation: vec![step(Rule::Dec, &[message, guess], top), step(Rule::Hash, &[top], hash)],
         claim: [guess, 1, Way::KnownBefore.letter(), 0],
     }
+}
+
+/// A message under a key that is as many hashes as can be listed, one of the other, of an atom that
+/// may be known.
+pub fn locked_by_hashes(known: bool) -> Bodies {
+    let mut frame = Frame::new();
+    let atom = frame.atom(Kind::Plain, 0);
+    let hashes = Nesting::Hashes.nest(&mut frame.table, atom, atom, Body::Terms.most() - 1);
+    let message = frame.table.compound(Kind::Enc, &[hashes[0], hashes[hashes.len() - 1]]);
+    frame.know([message].into_iter().chain(known.then_some(atom)).collect());
+    frame.finish()
 }
 
 /// Pairs of which each holds the former twice, up to `terms` terms; the last is known.
@@ -217,6 +244,11 @@ pub enum Order {
     Falling,
 }
 
+impl Order {
+    pub const ALL: [(&'static str, Order); 2] =
+        [("rising", Order::Rising), ("falling", Order::Falling)];
+}
+
 /// Encryptions under public keys. Each hides the private key that opens the next; the first private
 /// key is known.
 pub fn private_key_chain(links: usize, order: Order) -> Bodies {
@@ -238,6 +270,57 @@ pub fn plain_key_chain(links: usize, locked: usize, order: Order) -> Bodies {
     let messages = chain(&mut frame, Kind::Enc, links, order);
     let locked = self::locked(&mut frame, locked);
     frame.know([vec![keys[0]], messages, locked].concat());
+    frame.finish()
+}
+
+/// The secrets of a chain: atoms, or hashes of which each gives all the former ones.
+#[derive(Clone, Copy)]
+pub enum Secrets {
+    Atoms,
+    Hashes,
+}
+
+impl Secrets {
+    pub const ALL: [(&'static str, Secrets); 2] =
+        [("of atoms", Secrets::Atoms), ("down one chain", Secrets::Hashes)];
+
+    /// So many secrets. Those that are hashes have `apart` hashes from one to the former.
+    fn list(self, frame: &mut Frame, count: usize, apart: usize) -> Vec<u8> {
+        if let Secrets::Atoms = self {
+            return (0..count).map(|index| frame.atom(Kind::Plain, index)).collect();
+        }
+        let mut secrets = vec![frame.atom(Kind::Plain, 0)];
+        while secrets.len() < count {
+            secrets.push(frame.hashed(secrets[secrets.len() - 1], apart));
+        }
+        secrets.reverse();
+        secrets
+    }
+}
+
+/// Encryptions under keys that have to be built: a key is `depth` hashes, one of the other, of a
+/// secret. Each hides the secret of the next; the first secret is known.
+pub fn hash_key_chain(secrets: Secrets, links: usize, depth: usize, order: Order) -> Bodies {
+    let mut frame = Frame::new();
+    let secrets = secrets.list(&mut frame, links + 1, depth + 1);
+    let links: Vec<[u8; 2]> =
+        secrets.windows(2).map(|secrets| [secrets[1], frame.hashed(secrets[0], depth)]).collect();
+    let messages = chain(&mut frame, Kind::Enc, links, order);
+    frame.know([vec![secrets[0]], messages].concat());
+    frame.finish()
+}
+
+/// Encryptions under such keys, one in the other: each hides the next beside the secret of its key.
+pub fn nested_hash_keys(links: usize, depth: usize) -> Bodies {
+    let mut frame = Frame::new();
+    let secrets = Secrets::Atoms.list(&mut frame, links + 1, depth + 1);
+    let mut message = secrets[links];
+    for secrets in secrets.windows(2).rev() {
+        let pair = frame.table.compound(Kind::Pair, &[secrets[1], message]);
+        let key = frame.hashed(secrets[0], depth);
+        message = frame.table.compound(Kind::Enc, &[pair, key]);
+    }
+    frame.know(vec![secrets[0], message]);
     frame.finish()
 }
 

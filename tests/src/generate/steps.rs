@@ -3,7 +3,7 @@
 use super::table::Table;
 use crate::tables::{padded, Opener, Rule};
 
-/// The terms known so far, by number.
+/// A set of terms by number: those known so far.
 pub struct Known(Vec<bool>);
 
 impl Known {
@@ -33,8 +33,13 @@ pub fn possible(table: &Table, known: &Known) -> Vec<[u8; 4]> {
         .collect()
 }
 
-/// The steps that build the compound with this number or take it apart, if it is one and the
-/// inverse key is listed.
+/// The step that builds the compound with this number.
+pub fn building(table: &Table, number: u8) -> [u8; 4] {
+    around(table, number)[0]
+}
+
+/// The step that builds the compound with this number, and those that take it apart, if it is one
+/// and the inverse key is listed.
 pub fn around(table: &Table, number: u8) -> Vec<[u8; 4]> {
     let Some((rule, operands)) = table.as_compound(number) else {
         return vec![];

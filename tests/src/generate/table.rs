@@ -37,18 +37,38 @@ impl Table {
         self.list([kind.number(), x, y])
     }
 
+    /// The kind of the term with this number, and the two bytes after it.
+    fn record(&self, number: u8) -> Option<(Kind, &[u8; 2])> {
+        let [kind, bytes @ ..] = self.records.get(usize::from(number))?;
+        Some((Kind::from_number(*kind)?, bytes))
+    }
+
+    pub fn kind(&self, number: u8) -> Option<Kind> {
+        self.record(number).map(|(kind, _)| kind)
+    }
+
     /// The kind and name of the atom with this number.
     pub fn as_atom(&self, number: u8) -> Option<(Kind, u16)> {
-        let &[kind, high, low] = self.records.get(usize::from(number))?;
-        let kind = Kind::from_number(kind).filter(|kind| kind.is_atom())?;
-        Some((kind, u16::from_be_bytes([high, low])))
+        let (kind, name) = self.record(number).filter(|(kind, _)| kind.is_atom())?;
+        Some((kind, u16::from_be_bytes(*name)))
     }
 
     /// The rule that builds the compound with this number, and its operands.
     pub fn as_compound(&self, number: u8) -> Option<(Rule, &[u8])> {
-        let [kind, operands @ ..] = self.records.get(usize::from(number))?;
-        let rule = Kind::from_number(*kind)?.rule()?;
-        Some((rule, &operands[..rule.operands()]))
+        let (kind, bytes) = self.record(number)?;
+        let rule = kind.rule()?;
+        Some((rule, &bytes[..rule.operands()]))
+    }
+
+    /// For each term, whether the part is it, or one that it is made from.
+    pub fn having(&self, part: u8) -> Vec<bool> {
+        let mut having: Vec<bool> = Vec::new();
+        for number in self.numbers() {
+            let operands = self.as_compound(number).map_or(&[][..], |(_, operands)| operands);
+            let has = |&operand: &u8| having[usize::from(operand)];
+            having.push(number == part || operands.iter().any(has));
+        }
+        having
     }
 
     /// The listed number of a key's inverse.
@@ -60,10 +80,8 @@ impl Table {
 
     /// The listed terms of one of the kinds.
     pub fn of_kinds(&self, kinds: &[Kind]) -> Vec<u8> {
-        let numbers: Vec<u8> = kinds.iter().map(|kind| kind.number()).collect();
-        self.numbers()
-            .filter(|&number| numbers.contains(&self.records[usize::from(number)][0]))
-            .collect()
+        let is_one = |&number: &u8| self.kind(number).is_some_and(|kind| kinds.contains(&kind));
+        self.numbers().filter(is_one).collect()
     }
 
     pub fn numbers(&self) -> impl Iterator<Item = u8> {

@@ -1,0 +1,109 @@
+//! The reference on the shapes with hashes: they are what their comments say.
+
+use checker_tests::bodies::Bodies;
+use checker_tests::generate::shapes::{
+    built, hash_key_chain, largest_built, locked_by_hashes, nested, nested_hash_keys, tower,
+    Nesting, Order, Secrets,
+};
+use checker_tests::reference::{deducible, verdict};
+use checker_tests::tables::{Body, Kind};
+
+fn first_line(bodies: &Bodies) -> String {
+    verdict(&bodies.submission()).lines().next().unwrap().to_string()
+}
+
+/// Whether each of these terms is deducible.
+fn are_deducible(bodies: &Bodies, numbers: impl IntoIterator<Item = usize>) -> bool {
+    let submission = bodies.submission();
+    numbers.into_iter().all(|number| deducible(&submission, number as u8).unwrap())
+}
+
+fn is_hash(record: &[u8; 3]) -> bool {
+    record[0] == Kind::Hash.number()
+}
+
+fn hashes(bodies: &Bodies) -> usize {
+    bodies.terms.iter().filter(|record| is_hash(record)).count()
+}
+
+/// The messages under keys that are hashes.
+fn under_hashes(bodies: &Bodies) -> Vec<usize> {
+    let mut messages = Vec::new();
+    for &[kind, message, key] in &bodies.terms {
+        if kind == Kind::Enc.number() && is_hash(&bodies.terms[usize::from(key)]) {
+            messages.push(message.into());
+        }
+    }
+    messages
+}
+
+#[test]
+fn hashes_up_to_the_limit() {
+    let tower = tower(Nesting::Hashes);
+    assert_eq!((tower.terms.len(), hashes(&tower)), (250, 249));
+    assert!(are_deducible(&tower, 0..250));
+}
+
+#[test]
+fn hashes_of_the_guess() {
+    for steps in [1, 2, 127, 128] {
+        let bodies = built(Nesting::Hashes, Body::Terms.most(), steps);
+        assert_eq!((bodies.terms.len(), hashes(&bodies)), (250, 249));
+        assert_eq!(first_line(&bodies), format!("accepted {steps}"));
+        assert!(are_deducible(&bodies, steps..250));
+        assert!((0..steps).all(|number| !are_deducible(&bodies, [number])));
+    }
+}
+
+#[test]
+fn nested_terms_are_built_where_their_atom_is_known() {
+    for (title, nesting) in Nesting::ALL {
+        let [known, hidden] = [true, false].map(|known| nested(nesting, known));
+        assert_eq!(known.terms.len(), 250, "{title}");
+        assert_eq!(first_line(&known), "refused 8 1", "{title}");
+        assert_eq!(first_line(&hidden), "accepted 2", "{title}");
+        let top = usize::from(known.derivation[1][1]);
+        assert!(are_deducible(&known, [top]) && !are_deducible(&hidden, [top]), "{title}");
+    }
+}
+
+#[test]
+fn the_most_steps_are_accepted() {
+    for nesting in [Nesting::Enca, Nesting::Hashes] {
+        let bodies = largest_built(nesting);
+        assert_eq!([bodies.terms.len(), bodies.knowledge.len()], [250, 64]);
+        assert_eq!(first_line(&bodies), "accepted 128");
+    }
+}
+
+#[test]
+fn a_key_of_hashes_opens_where_its_atom_is_known() {
+    for known in [true, false] {
+        let bodies = locked_by_hashes(known);
+        let [_, locked, _] = bodies.terms[249];
+        assert_eq!((bodies.terms.len(), hashes(&bodies)), (250, 245));
+        assert_eq!(are_deducible(&bodies, [locked.into()]), known);
+        assert_eq!(first_line(&bodies), "accepted 1");
+    }
+}
+
+/// The chains with as many links as fit, and the same without the first secret, which comes first
+/// after what verifies the guess.
+#[test]
+fn each_opened_message_gives_the_next_key() {
+    let mut chains = vec![("nested".to_string(), nested_hash_keys(49, 2))];
+    for (word, order) in Order::ALL {
+        for (title, secrets) in Secrets::ALL {
+            chains.push((format!("{title}, {word}"), hash_key_chain(secrets, 61, 2, order)));
+            chains.push((format!("{title}, {word}"), hash_key_chain(secrets, 76, 1, order)));
+        }
+    }
+    for (title, mut bodies) in chains {
+        assert!(bodies.terms.len() > 246 && bodies.terms.len() <= 250, "{title}");
+        assert_eq!(first_line(&bodies), "accepted 1", "{title}");
+        let locked = under_hashes(&bodies);
+        assert!(locked.len() >= 49 && are_deducible(&bodies, locked.iter().copied()), "{title}");
+        bodies.knowledge.remove(2);
+        assert!(locked.into_iter().all(|number| !are_deducible(&bodies, [number])), "{title}");
+    }
+}
