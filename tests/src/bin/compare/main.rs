@@ -6,6 +6,7 @@
 
 mod answers;
 mod forms;
+mod rows;
 mod tally;
 
 use std::process::ExitCode;
@@ -13,6 +14,7 @@ use std::time::Instant;
 
 use answers::{answers, Answers, STACK};
 use checker_tests::arguments::seed_and_count;
+use checker_tests::bodies::Bodies;
 use checker_tests::examples;
 use checker_tests::generate::{deepest, Input, Source};
 use checker_tests::reference::{self, code, REFUSAL};
@@ -87,11 +89,18 @@ fn compare_input(input: &Input, found: &Answers, tally: &mut Tally) -> Result<()
         let expected = reference::deducible(&input.submission, term);
         same(input, &format!("deducible {term}"), code(expected), found)?;
         tally.count(Call::Deducible, expected);
+        if expected == Ok(true) {
+            let needed = reference::needed_keys(&input.submission, term);
+            tally.rows.count_needed(&needed.expect("the term is deducible"));
+        }
     }
     for ((name, program), &found) in input.runs.iter().zip(&found.runs) {
         let expected = reference::run(&input.submission, *name, program);
         same(input, &format!("run {name} {}", hex(program)), code(expected), found)?;
         tally.count(Call::Run, expected);
+        if expected.is_ok() {
+            tally.rows.count_run(program);
+        }
     }
     for (form, found) in input.forms.iter().zip(&found.writes) {
         compare_form(input, form, found, tally)?;
@@ -109,7 +118,12 @@ fn compare_check(input: &Input, found: &Answers, tally: &mut Tally) -> Result<()
     tally.count(Call::Check, expected.map(|_| true));
     match expected {
         Ok(_) => compare_signals(input, &found.signals, tally),
-        Err(_) => Ok(()),
+        Err(refusal) => {
+            if let Ok(bodies) = Bodies::read(&input.submission) {
+                tally.rows.count_refused(&bodies, refusal);
+            }
+            Ok(())
+        }
     }
 }
 

@@ -1,8 +1,12 @@
 //! Counts of what the inputs reached.
 
+use std::fmt::Display;
+
 use checker_tests::bodies::Bodies;
 use checker_tests::reference::{Checked, Refusal};
 use checker_tests::tables::{Body, Call, Kind, Reason, Way};
+
+use crate::rows::Rows;
 
 /// The answers of one call: accepted, yes or 1; no or 0; the refusals by number; and those for a
 /// count by their place, which is that of the body.
@@ -21,6 +25,7 @@ pub struct Tally {
     places: [Option<(usize, usize)>; Reason::ALL.len()],
     /// Accepted submissions by way and by kind of guess.
     accepted: [[u64; Kind::ALL.len()]; Way::ALL.len()],
+    pub rows: Rows,
     pub wrong_guesses: u64,
     /// Submissions written again from their own bodies.
     pub rewritten: u64,
@@ -46,14 +51,14 @@ impl Tally {
 
     /// Counts an accepted submission with a guess of this kind.
     pub fn count_accepted(&mut self, submission: &[u8], guess: Kind) {
-        let claim = Bodies::read(submission).expect("the submission is accepted").claim;
-        let way = Way::from_letter(claim[2]).expect("the claim is accepted");
+        let bodies = Bodies::read(submission).expect("the submission is accepted");
+        let way = Way::from_letter(bodies.claim[2]).expect("the claim is accepted");
         self.accepted[way as usize][guess as usize] += 1;
+        self.rows.count_accepted(&bodies);
     }
 
     pub fn print(&self) {
-        let calls = cells(Call::ALL, |call| call.word().to_string());
-        println!("{:<20}{calls}  places", "answer");
+        println!("{}  places", cells("answer", Call::ALL, Call::word));
         self.print_row("accepted, yes, 1", |answers| answers.yes, String::new());
         self.print_row("no, 0", |answers| answers.no, String::new());
         for reason in Reason::ALL {
@@ -64,25 +69,28 @@ impl Tally {
             };
             self.print_row(&title, |answers| answers.refused[reason as usize], places);
         }
-        let kinds = cells(Kind::atoms(), |kind| kind.word().to_string());
-        println!("\n{:<20}{kinds}", "accepted, guess");
+        println!();
+        println!("{}", cells("accepted, guess", Kind::atoms(), Kind::word));
         for way in Way::ALL {
             let counts = &self.accepted[way as usize];
-            let counts = cells(Kind::atoms(), |kind| counts[kind as usize].to_string());
-            println!("{:<20}{counts}", way_title(way));
+            let counts = cells(&way_title(way), Kind::atoms(), |kind| counts[kind as usize]);
+            println!("{counts}");
         }
+        println!();
+        self.rows.print();
         println!("\nwrong guesses that signalled 0: {}", self.wrong_guesses);
         println!("submissions written again from their bodies: {}", self.rewritten);
     }
 
     /// A row with one cell for each call.
     fn print_row(&self, title: &str, cell: impl Fn(&Answers) -> u64, places: String) {
-        let counts = cells(Call::ALL, |call| cell(&self.answers[call as usize]).to_string());
-        println!("{title:<20}{counts}  {places}");
+        let counts = cells(title, Call::ALL, |call| cell(&self.answers[call as usize]));
+        println!("{counts}  {places}");
     }
 
-    /// Fails where one of a call's refusals, a count at one of the places, an acceptance, a way or a
-    /// kind of guess was never reached, or where no submission was written again.
+    /// Fails where one of a call's refusals, a count at one of the places, an acceptance, a way, a
+    /// kind of guess, or a row of the tables of kinds and rules was never reached, or where no
+    /// submission was written again.
     pub fn complete(&self) -> Result<(), String> {
         let mut missing: Vec<String> = Call::ALL
             .into_iter()
@@ -98,6 +106,7 @@ impl Tally {
                 missing.push(format!("a guess of kind {}", kind.number()));
             }
         }
+        missing.extend(self.rows.missing());
         if self.rewritten == 0 {
             missing.push("a submission written again".to_string());
         }
@@ -133,7 +142,12 @@ fn way_title(way: Way) -> String {
     format!("way {}", char::from(way.letter()))
 }
 
-/// One cell for each column.
-fn cells<T>(columns: impl IntoIterator<Item = T>, cell: impl Fn(T) -> String) -> String {
-    columns.into_iter().map(|column| format!("{:>10}", cell(column))).collect()
+/// A title, and one cell for each column.
+pub fn cells<T, C: Display>(
+    title: &str,
+    columns: impl IntoIterator<Item = T>,
+    cell: impl Fn(T) -> C,
+) -> String {
+    let cells: String = columns.into_iter().map(|column| format!("{:>10}", cell(column))).collect();
+    format!("{title:<20}{cells}")
 }
