@@ -13,7 +13,7 @@ use std::time::{Duration, Instant};
 use checker::raw;
 use checker_tests::bodies::Bodies;
 use checker_tests::examples;
-use checker_tests::generate::shapes::{self, Order};
+use checker_tests::generate::shapes::{self, Nesting, Order, Secrets};
 use checker_tests::generate::{repeated, Form};
 use checker_tests::reference::{self, code};
 use checker_tests::tables::{Body, Rule, LONGEST_PROGRAM, LONGEST_SUBMISSION};
@@ -37,9 +37,10 @@ fn main() {
     measure_own_page("M1", &examples::submission("M1"));
     measure_own_page("typical", &examples::submission(TYPICAL));
     measure_own_page("largest accepted", &shapes::largest().submission());
+    measure_own_page("249 hashes, 128 steps", &hash_chain(Body::Derivation.most()));
     let doubling = shapes::doubling_known(Body::Terms.most());
-    let pairs = repeated(Rule::Pair, doubling.knowledge.len() as u8, |register| register);
-    measure_run("128 times pair r r, 250 terms", &doubling.submission(), &pairs);
+    measure_repeated("128 times pair r r, 250 terms", Rule::Pair, &doubling);
+    measure_repeated("128 times hash r, 250 terms", Rule::Hash, &doubling);
     measure_write_again("M1", &examples::submission("M1"));
     measure_write_again("typical", &examples::submission(TYPICAL));
     measure_write_again("largest", &shapes::largest().submission());
@@ -58,8 +59,14 @@ fn submissions() -> Vec<(String, Vec<u8>)> {
         ("doubling pairs known".to_string(), shapes::doubling_known(terms).submission()),
         ("doubling pairs asked".to_string(), shapes::doubling_asked(terms).submission()),
         ("nested pairs, 100 locked".to_string(), shapes::nested_pairs(143, 40, 60).submission()),
+        ("249 hashes, 1 step".to_string(), hash_chain(1)),
+        ("249 hashes, 128 steps".to_string(), hash_chain(Body::Derivation.most())),
+        (
+            "49 nested keys, hashes of hashes".to_string(),
+            shapes::nested_hash_keys(49, 2).submission(),
+        ),
     ];
-    for (word, order) in [("rising", Order::Rising), ("falling", Order::Falling)] {
+    for (word, order) in Order::ALL {
         submissions.push((
             format!("76 private keys, {word}"),
             shapes::private_key_chain(76, order).submission(),
@@ -68,8 +75,19 @@ fn submissions() -> Vec<(String, Vec<u8>)> {
             format!("52 plain keys, 75 locked, {word}"),
             shapes::plain_key_chain(52, 75, order).submission(),
         ));
+        for (title, secrets) in Secrets::ALL {
+            submissions.push((
+                format!("61 keys, hashes of hashes {title}, {word}"),
+                shapes::hash_key_chain(secrets, 61, 2, order).submission(),
+            ));
+        }
     }
     submissions
+}
+
+/// A chain of hashes of the guess up to the limit on terms, of which so many are steps.
+fn hash_chain(steps: usize) -> Vec<u8> {
+    shapes::built(Nesting::Hashes, Body::Terms.most(), steps).submission()
 }
 
 fn measure_check(title: &str, submission: &[u8]) {
@@ -93,6 +111,12 @@ fn measure_run(title: &str, submission: &[u8], program: &[u8]) {
     let checker = nanoseconds(|| raw::run(black_box(submission), name, program));
     let reference = nanoseconds(|| code(reference::run(black_box(submission), name, program)));
     print_row("run", title, submission.len() + program.len(), checker, reference);
+}
+
+/// Runs the longest program of one rule over its own last result, twice where it has two operands.
+fn measure_repeated(title: &str, rule: Rule, bodies: &Bodies) {
+    let program = repeated(rule, bodies.knowledge.len() as u8, |register| register);
+    measure_run(title, &bodies.submission(), &program);
 }
 
 /// Runs what the check writes on the page.
