@@ -83,10 +83,12 @@ const PUBLIC: [&str; 14] = [
     "public ka",
 ];
 
-/// The names of the examples from documents 000 to 003: there the knowledge goes by the rule of
-/// docs/EXAMPLES.md.
+/// The names of our own examples and of those from documents 000 to 003: there the knowledge goes
+/// by the rule of docs/EXAMPLES.md.
 fn by_rule() -> impl Iterator<Item = String> {
-    names().into_iter().filter(|name| ("000".."004").contains(&name.as_str()))
+    names()
+        .into_iter()
+        .filter(|name| ("000".."004").contains(&name.as_str()) || name.starts_with("own-"))
 }
 
 /// The lines under a title of a text in the notation.
