@@ -87,8 +87,8 @@ fn a_key_of_hashes_opens_where_its_atom_is_known() {
     }
 }
 
-/// The chains with as many links as fit, and the same without the first secret, which comes first
-/// after what verifies the guess.
+/// The chains with as many links as fit, of which the first and the last message listed are asked for;
+/// and the same without the first secret, which comes first after what verifies the guess.
 #[test]
 fn each_opened_message_gives_the_next_key() {
     let mut chains = vec![("nested".to_string(), nested_hash_keys(49, 2))];
@@ -97,13 +97,15 @@ fn each_opened_message_gives_the_next_key() {
             chains.push((format!("{title}, {word}"), hash_key_chain(secrets, 61, 2, order)));
             chains.push((format!("{title}, {word}"), hash_key_chain(secrets, 76, 1, order)));
         }
+        chains.push((word.to_string(), hash_key_chain(Secrets::Hashes, 102, 0, order)));
     }
     for (title, mut bodies) in chains {
         assert!(bodies.terms.len() > 246 && bodies.terms.len() <= 250, "{title}");
         assert_eq!(first_line(&bodies), "accepted 1", "{title}");
         let locked = under_hashes(&bodies);
-        assert!(locked.len() >= 49 && are_deducible(&bodies, locked.iter().copied()), "{title}");
+        let ends = [locked[0], locked[locked.len() - 1]];
+        assert!(locked.len() >= 49 && are_deducible(&bodies, ends), "{title}");
         bodies.knowledge.remove(2);
-        assert!(locked.into_iter().all(|number| !are_deducible(&bodies, [number])), "{title}");
+        assert!(ends.into_iter().all(|number| !are_deducible(&bodies, [number])), "{title}");
     }
 }

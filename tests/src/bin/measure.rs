@@ -75,12 +75,14 @@ fn submissions() -> Vec<(String, Vec<u8>)> {
             format!("52 plain keys, 75 locked, {word}"),
             shapes::plain_key_chain(52, 75, order).submission(),
         ));
-        for (title, secrets) in Secrets::ALL {
-            submissions.push((
-                format!("61 keys, hashes of hashes {title}, {word}"),
-                shapes::hash_key_chain(secrets, 61, 2, order).submission(),
-            ));
-        }
+        submissions.push((
+            format!("61 keys, hashes of hashes, {word}"),
+            shapes::hash_key_chain(Secrets::Atoms, 61, 2, order).submission(),
+        ));
+        submissions.push((
+            format!("102 keys down one chain of hashes, {word}"),
+            shapes::hash_key_chain(Secrets::Hashes, 102, 0, order).submission(),
+        ));
     }
     submissions
 }

@@ -139,7 +139,7 @@ impl Source {
         let size = self.random.between(4, Body::Terms.most());
         let (_, order) = self.random.pick(&Order::ALL);
         let (_, secrets) = self.random.pick(&Secrets::ALL);
-        let depth = self.random.between(1, 4);
+        let depth = self.random.between(0, 4);
         match self.random.below(9) {
             0 => shapes::doubling_known(size),
             1 => shapes::doubling_asked(size),

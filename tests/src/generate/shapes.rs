@@ -299,7 +299,8 @@ impl Secrets {
 }
 
 /// Encryptions under keys that have to be built: a key is `depth` hashes, one of the other, of a
-/// secret. Each hides the secret of the next; the first secret is known.
+/// secret, or the secret itself where that is 0. Each hides the secret of the next; the first secret
+/// is known.
 pub fn hash_key_chain(secrets: Secrets, links: usize, depth: usize, order: Order) -> Bodies {
     let mut frame = Frame::new();
     let secrets = secrets.list(&mut frame, links + 1, depth + 1);
