@@ -1,6 +1,6 @@
 -- What the code's records mean in document 01's terms.
-use mathlib.Core.{Path._≡_, Logic._⊎_, List.List, Option.Option, Option.none, Option.some}
-use Prim.Native.Nat.{ℕ, _+_, _*_, _%_, _≤_, _<_}
+use mathlib.Core.{Path._≡_, Logic._⊎_, Bool.cond, List.List, Option.Option, Option.none, Option.some}
+use Prim.Native.Nat.{ℕ, _+_, _*_, _≤_, _<_}
 use lib.ListN.{length, getD}
 use Rattle.submission.specs.declared.Term.{Term}
 use Rattle.submission.specs.declared.Claim.{Claim}
@@ -17,7 +17,8 @@ use Rattle.submission.specs.declared.Row.{Row as RowRead}
 use Rattle.submission.specs.declared.Reading.{Reading}
 use Rattle.submission.specs.declared.Reading.the-variants.{Good, Refused}
 use Rattle.submission.specs.{Check.Way, Check.another-step, Check.at-start, Check.inverse-key, Check.wayOf, Check.Range, Check.step-number, Check.term-number, Check.zero-only, Check.Operand, Check.verifying-result, Check.companion-result, Check.lowest-conclusion, Check.lowest-companion, Check.Row, Record.start, Record.count, Record.terms, Record.kindAt, Record.xAt, Record.yAt, Record.guess, Record.verifying, Record.wayAt, Record.companion}
-use Rattle.term.specs.Code.{relationIs}
+use Rattle.term.specs.Code.{relationIs, isUnary}
+use Rattle.term.specs.Number.{shapeOf}
 use Rattle.base.specs.Computed.{Check, passes, fails}
 
 -- r is where body i starts; a body has at most 255 records of at most 4 bytes
@@ -87,19 +88,19 @@ pub record ReadingIs (s : List ℕ) (d : Check) (r : Reading) : Type 0 where
   pub answer : readingCheck r ≡ d
   pub claim : (c : Claim) → r ≡ Good c → IsClaim s c
 
--- the sum of a record's two bytes, as a byte
-abbrev pub sumAt : List ℕ → ℕ → ℕ
-sumAt s i = (xAt s i + yAt s i) % 256
+-- a record's last part: y, or x where there is one part
+abbrev pub lastAt : List ℕ → ℕ → ℕ
+lastAt s i = cond (isUnary (shapeOf (kindAt s i))) (xAt s i) (yAt s i)
 
--- b numbers the latest of the first i terms whose record has this sum, and 255 stands for none
-pub record Latest (s : List ℕ) (i sum b : ℕ) : Type 0 where
-  pub is : (b ≡ 255) ⊎ ((b < i) × (sumAt s b ≡ sum))
-  pub last : (k : ℕ) → k < i → (b ≡ 255) ⊎ (b < k) → sumAt s k ≡ sum → ⊥
+-- b numbers the latest of the first i terms whose record has this last part, and 255 stands for none
+pub record Latest (s : List ℕ) (i y b : ℕ) : Type 0 where
+  pub is : (b ≡ 255) ⊎ ((b < i) × (lastAt s b ≡ y))
+  pub last : (k : ℕ) → k < i → (b ≡ 255) ⊎ (b < k) → lastAt s k ≡ y → ⊥
 
--- before has, for each of the first n terms, the latest earlier one whose record has the same sum
+-- before has, for each of the first n terms, the latest earlier one whose record has the same last part
 pub record Chained (s : List ℕ) (n : ℕ) (before : List ℕ) : Type 0 where
   pub long : length before ≡ 256
-  pub is : (k : ℕ) → k < n → Latest s k (sumAt s k) (getD before k 0)
+  pub is : (k : ℕ) → k < n → Latest s k (lastAt s k) (getD before k 0)
 
 -- what the limits say of the counts that programs and registers are made of
 pub record Limited (s : List ℕ) : Type 0 where

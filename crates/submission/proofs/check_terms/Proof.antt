@@ -24,14 +24,17 @@ loop-holds c = (passed-none, chaining-none)
 term-at-requires : tie.Need-term-at-requires Inv-loop μ-loop
 term-at-requires c κs = search scan
 
-sum-of-requires : tie.Need-sum-of-requires Inv-loop μ-loop
-sum-of-requires c κs = search scan
+second-part-requires : tie.Need-second-part-requires Inv-loop μ-loop
+second-part-requires c κs = search scan
+
+wide-requires : tie.Need-wide-requires Inv-loop μ-loop
+wide-requires c κs = search scan
 
 array-read-before : tie.Need-array-read-before Inv-loop μ-loop
 array-read-before c = search scan
 
-wide-requires : tie.Need-wide-requires Inv-loop μ-loop
-wide-requires c κs = search scan
+wide-requires-2 : tie.Need-wide-requires-2 Inv-loop μ-loop
+wide-requires-2 c κs = search scan
 
 array-write-before : tie.Need-array-write-before Inv-loop μ-loop
 array-write-before c = search scan
@@ -42,10 +45,11 @@ array-write-latest c = search scan
 is-term-bad-requires : tie.Need-is-term-bad-requires Inv-loop μ-loop
 is-term-bad-requires c κs =
     let d = c .before in
-    let at = d .before .before .before in
+    let e = d .before .before in
+    let at = e .before .before in
     let m : at .before .before .terms .result < 256 = omega arith in
-    let h : d .before .sum-of .result < 256 = omega (arith, d .before .sum-of .ensures) in
-    chaining-more (at .before .loop .inv .1) (at .loop-test .taken) m (d .before .before .term-at .ensures) (d .before .sum-of .ensures) (d .wide .ensures) h .chained
+    let h : d .before .wide .result < 256 = omega arith in
+    chaining-more (at .before .loop .inv .1) (at .loop-test .taken) m (e .before .term-at .ensures) (d .before .wide .ensures) (e .second-part .ensures) (d .wide2 .ensures) h .chained
 
 wide16-requires : tie.Need-wide16-requires Inv-loop μ-loop
 wide16-requires c κs = search scan
@@ -62,10 +66,11 @@ loop-less c = search scan
 loop-again : tie.Need-loop-again Inv-loop μ-loop
 loop-again c =
     let d = c .before .before .before in
-    let at = d .before .before .before in
+    let e = d .before .before in
+    let at = e .before .before in
     let m : at .before .before .terms .result < 256 = omega arith in
-    let h : d .before .sum-of .result < 256 = omega (arith, d .before .sum-of .ensures) in
-    (search scan, chaining-more (at .before .loop .inv .1) (at .loop-test .taken) m (d .before .before .term-at .ensures) (d .before .sum-of .ensures) (d .wide .ensures) h)
+    let h : d .before .wide .result < 256 = omega arith in
+    (search scan, chaining-more (at .before .loop .inv .1) (at .loop-test .taken) m (e .before .term-at .ensures) (d .before .wide .ensures) (e .second-part .ensures) (d .wide2 .ensures) h)
 
 returns-2 : tie.Need-returns-2 Inv-loop μ-loop
 returns-2 c = search (passes-all, scan)
@@ -79,9 +84,10 @@ check-terms-spec =
     terms-requires
     loop-holds
     term-at-requires
-    sum-of-requires
-    array-read-before
+    second-part-requires
     wide-requires
+    array-read-before
+    wide-requires-2
     array-write-before
     array-write-latest
     is-term-bad-requires
