@@ -7,8 +7,7 @@ use checker_tests::reference::{
 };
 use checker_tests::tables::Kind;
 
-/// A hash of a pair of the guess and a nonce is known, as in the wireless logins; so is a message
-/// under it. Term 0, which the unused bytes of a hash would number, is known to nobody.
+/// A message under a hash of the guess and a nonce is known, and so is what it says. Term 0, which the unused bytes of a hash would number, is known to nobody.
 const LOGIN: &str = "
 terms
   z
@@ -263,14 +262,14 @@ fn a_program_has_one_register_and_0() {
 /// What is hashed is part of the hash; term 0, which the unused byte would number, is not.
 #[test]
 fn wrong_guesses_look_into_a_hash() {
-    let bodies = Bodies { knowledge: vec![N, M, MH], ..login() };
+    let bodies = Bodies { knowledge: vec![MH], ..login() };
     let submission = bodies.submission();
     let name = |term: u8| {
         let [_, high, low] = bodies.terms[usize::from(term)];
         u16::from_be_bytes([high, low])
     };
     assert_eq!(is_wrong_guess(&submission, name(Z)), Ok(true));
-    for part in [N, G, M] {
+    for part in [N, M] {
         assert_eq!(is_wrong_guess(&submission, name(part)), Ok(false), "{part}");
     }
     let mut hashed = bodies.clone();

@@ -87,8 +87,9 @@ fn a_key_of_hashes_opens_where_its_atom_is_known() {
     }
 }
 
-/// The chains with as many links as fit, of which the first and the last message listed are asked for;
-/// and the same without the first secret, which comes first after what verifies the guess.
+/// The chains with as many links as fit, of which the first and the last message listed are asked
+/// for, one of them the last link; and the same without the first secret, which comes first after
+/// what verifies the guess.
 #[test]
 fn each_opened_message_gives_the_next_key() {
     let mut chains = vec![("nested".to_string(), nested_hash_keys(49, 2))];

@@ -33,12 +33,13 @@ pub record HashPromise : Type 1 where
   -- "Nothing undoes a hash", and a hash undoes nothing
   pub kept : (h : Head) (p t p′ t′ : Term) → Undoes h p t (make hash) p′ t′ → ⊥
   pub keeps : (h : Head) (p t p′ t′ : Term) → Undoes (make hash) p t h p′ t′ → ⊥
-  -- whatever a step concludes from a hash is built over it: nothing is taken out
+  -- whatever a step concludes from a hash as its first premise is built over it: nothing is taken out
   pub shut : (h : Head) (x q c : Term) → Step h (hashOf x) q c → (f : Form) × (c ≡ node (make f) (hashOf x) q)
   -- one way: a hash alone does not give its operand
   pub oneWay : (x : Term) → Deducible (λ t. t ≡ hashOf x) x → ⊥
-  -- "the machine has no reduction for it"
+  -- "the machine has no reduction for it", with the hash just formed, nor with a hash as first operand
   pub unreduced : (a b : Term) → op (make hash) a b ≡ node (make hash) a b
+  pub irreducible : (h : Head) (x b : Term) → op h (hashOf x) b ≡ node h (hashOf x) b
   -- "it prints with one register", after the word hash in ASCII
   pub printed : (r : ℕ) (i : Instruction) → i .rule ≡ 7 →
       stepLine r i ≡ registerText r ++ space ++ (0x3D ∷ []) ++ space ++ (0x68 ∷ 0x61 ∷ 0x73 ∷ 0x68 ∷ []) ++ space ++ registerText (i .left) ++ newline

@@ -24,7 +24,7 @@ use Rattle.term.specs.Code.{isUnary, secondOf}
 use Rattle.submission.specs.declared.Term.{Term}
 use Rattle.submission.specs.Record.{kindAt, xAt, yAt}
 use Rattle.term.specs.Computed.{takes, isAtomic}
-use Rattle.submission.specs.Code.{IsTerm, lastAt, Latest, Chained}
+use Rattle.submission.specs.Code.{IsTerm, chainedBy, Latest, Chained}
 use Rattle.submission.specs.Computed.{shapeFits, sameRecord}
 use Rattle.submission.proofs.theory.GoodRecord.{says-same}
 
@@ -99,24 +99,24 @@ module _ {s : List ℕ} {j : ℕ} {u : Term} (t : Term) (q : IsTerm s j u) where
 pub same-record : {s : List ℕ} {i : ℕ} {t : Term} {b r : Bool} (j : ℕ) → IsTerm s i t → b ≡ (eqb (kindAt s j) (t .kind) && (eqb (xAt s j) (t .x) && eqb (yAt s j) (t .y))) → b ≡ r → sameRecord s i j ≡ r
 same-record j p e h = rw (← (p .kind), ← (p .x), ← (p .y)) (sym e ∙ h)
 
--- ---- the chains of records with the same last part
--- equal records have one last part
-last-apart : (s : List ℕ) (i k : ℕ) → (lastAt s k ≡ lastAt s i → ⊥) → sameRecord s i k ≡ false
-last-apart s i k d = denies _ (says-same s i k) .1 (λ (e, (x, y)). d (rw (e, x, y)))
+-- ---- the chains of records
+-- equal records are in one chain
+chain-apart : (s : List ℕ) (i k : ℕ) → (chainedBy s k ≡ chainedBy s i → ⊥) → sameRecord s i k ≡ false
+chain-apart s i k d = denies _ (says-same s i k) .1 (λ (e, (x, y)). d (rw (e, x, y)))
 
 module _ {s : List ℕ} {i y : ℕ} where
-  -- one record more, with the last part y or with another one
-  latest-here : i < 255 → lastAt s i ≡ y → Latest s (i + 1) y i
+  -- one record more, chained by y or by another byte
+  latest-here : i < 255 → chainedBy s i ≡ y → Latest s (i + 1) y i
   latest-here l e = record { is = inr (omega arith, e); last = λ k u v w. ⊎-elim (λ x. omega arith) (λ x. omega arith) v }
 
-  latest-kept : {b : ℕ} → Latest s i y b → (lastAt s i ≡ y → ⊥) → Latest s (i + 1) y b
+  latest-kept : {b : ℕ} → Latest s i y b → (chainedBy s i ≡ y → ⊥) → Latest s (i + 1) y b
   latest-kept {b} p d =
       record {
         is = ⊎-elim (λ x. inl x) (λ x. let l = x .0 in inr (omega arith, x .1)) (p .is);
-        last = below-more (λ k. (b ≡ 255) ⊎ (b < k) → lastAt s k ≡ y → ⊥) i (p .last) (λ u. d);
+        last = below-more (λ k. (b ≡ 255) ⊎ (b < k) → chainedBy s k ≡ y → ⊥) i (p .last) (λ u. d);
       }
 
--- the loop over the terms: the chains of the first i, and for each byte the latest with this last part
+-- the loop over the terms: the chains of the first i, and for each byte the latest that is chained by it
 pub record Chaining (s : List ℕ) (i : ℕ) (before latest : List ℕ) : Type 0 where
   pub chained : Chained s i before
   pub long : length latest ≡ 256
@@ -133,12 +133,12 @@ chaining-none {s} =
 pub chaining-more : {s before latest : List ℕ} {i w v r n : ℕ} {t : Term} → Chaining s i before latest → i < n → n < 256 → IsTerm s i t → v ≡ r → r ≡ cond (isUnary (shapeOf (t .kind))) (t .x) (t .y) → w ≡ i → v < 256 →
     Chaining s (i + 1) (set before w (getD latest v 0)) (set latest v i)
 chaining-more {s} {before} {latest} {i} {w} {v} {r} {n} {t} p l m q f o g h =
-    let y : lastAt s i ≡ v = sym (f ∙ o ∙ rw (q .kind, q .x, q .y)) in
+    let y : chainedBy s i ≡ v = sym (f ∙ o ∙ rw (q .kind, q .x, q .y)) in
     let b : w < length before = omega (arith, p .chained .long) in
     record {
       chained = record {
         long = length-set before w (getD latest v 0) ∙ p .chained .long;
-        is = below-more (λ k. Latest s k (lastAt s k) (getD (set before w (getD latest v 0)) k 0)) i
+        is = below-more (λ k. Latest s k (chainedBy s k) (getD (set before w (getD latest v 0)) k 0)) i
             (λ k c. rw (getD-set-other before w k (getD latest v 0) 0 (λ x. let z : k ≡ i = x ∙ g in omega arith)) (p .chained .is k c))
             (rw (← g, getD-set-same before w (getD latest v 0) 0 b, g, y) (p .is v h));
       };
@@ -148,18 +148,18 @@ chaining-more {s} {before} {latest} {i} {w} {v} {r} {n} {t} p l m q f o g h =
           (λ x. rw (getD-set-other latest v a i 0 x) (latest-kept (p .is a c) (λ z. x (sym z ∙ y))));
     }
 
--- the walk along a chain: no record from `past` on is record i, and j is the latest before it with the same last part
+-- the walk along a chain: no record from `past` on is record i, and j is the latest before it in the same chain
 pub record Walk (s : List ℕ) (i j : ℕ) : Type 0 where
   pub past : ℕ
   pub within : past ≤ i
   pub apart : (k : ℕ) → past ≤ k → k < i → sameRecord s i k ≡ false
-  pub next : Latest s past (lastAt s i) j
+  pub next : Latest s past (chainedBy s i) j
 
 module _ {s : List ℕ} {i j : ℕ} (p : Walk s i j) where
   -- a record that the walk has gone past
   passed-by : (k : ℕ) → k < i → (j ≡ 255) ⊎ (j < k) → sameRecord s i k ≡ false
   passed-by k l g =
-      ⊎-elim (λ b. last-apart s i k (p .next .last k b g)) (λ b. p .apart k b l) (lt-or-ge k (p .past))
+      ⊎-elim (λ b. chain-apart s i k (p .next .last k b g)) (λ b. p .apart k b l) (lt-or-ge k (p .past))
 
   pub walk-end : j ≡ 255 → false ≡ any (sameRecord s i) i
   walk-end e = false-any (record { within = le-refl i; failed = λ k l. passed-by k l (inl e) }) (le-refl i)
@@ -168,8 +168,8 @@ module _ {s : List ℕ} {i j : ℕ} (p : Walk s i j) where
     pub walk-below : j < i
     walk-below = ⊎-elim (λ x. absurd (d x)) (λ x. let l = x .0 in omega (arith, p .within)) (p .next .is)
 
-    same-last : lastAt s j ≡ lastAt s i
-    same-last = ⊎-elim (λ x. absurd (d x)) (λ x. x .1) (p .next .is)
+    same-chain : chainedBy s j ≡ chainedBy s i
+    same-chain = ⊎-elim (λ x. absurd (d x)) (λ x. x .1) (p .next .is)
 
     pub walk-hit : sameRecord s i j ≡ true → true ≡ any (sameRecord s i) i
     unfolding any
@@ -180,8 +180,8 @@ module _ {s before : List ℕ} {i : ℕ} (c : Chained s (i + 1) before) where
   walk-start e = record { past = i; within = le-refl i; apart = λ k u v. absurd (omega arith); next = rw e (c .is i (omega arith)) }
 
   module _ {j w : ℕ} (p : Walk s i j) (d : j ≡ 255 → ⊥) (e : w ≡ j) where
-    lower : Latest s j (lastAt s i) (getD before w 0)
-    lower = let b = walk-below p d in rw (e, ← (same-last p d)) (c .is j (omega arith))
+    lower : Latest s j (chainedBy s i) (getD before w 0)
+    lower = let b = walk-below p d in rw (e, ← (same-chain p d)) (c .is j (omega arith))
 
     pub walk-more : sameRecord s i j ≡ false → Walk s i (getD before w 0)
     walk-more f =

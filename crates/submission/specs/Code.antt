@@ -88,19 +88,19 @@ pub record ReadingIs (s : List ℕ) (d : Check) (r : Reading) : Type 0 where
   pub answer : readingCheck r ≡ d
   pub claim : (c : Claim) → r ≡ Good c → IsClaim s c
 
--- a record's last part: y, or x where there is one part
-abbrev pub lastAt : List ℕ → ℕ → ℕ
-lastAt s i = cond (isUnary (shapeOf (kindAt s i))) (xAt s i) (yAt s i)
+-- the byte by which records are chained: y, or x for a kind with one operand, whose y is 0
+abbrev pub chainedBy : List ℕ → ℕ → ℕ
+chainedBy s i = cond (isUnary (shapeOf (kindAt s i))) (xAt s i) (yAt s i)
 
--- b numbers the latest of the first i terms whose record has this last part, and 255 stands for none
+-- b numbers the latest of the first i terms that is chained by y, and 255 stands for none
 pub record Latest (s : List ℕ) (i y b : ℕ) : Type 0 where
-  pub is : (b ≡ 255) ⊎ ((b < i) × (lastAt s b ≡ y))
-  pub last : (k : ℕ) → k < i → (b ≡ 255) ⊎ (b < k) → lastAt s k ≡ y → ⊥
+  pub is : (b ≡ 255) ⊎ ((b < i) × (chainedBy s b ≡ y))
+  pub last : (k : ℕ) → k < i → (b ≡ 255) ⊎ (b < k) → chainedBy s k ≡ y → ⊥
 
--- before has, for each of the first n terms, the latest earlier one whose record has the same last part
+-- before has, for each of the first n terms, the latest earlier one that is chained by the same byte
 pub record Chained (s : List ℕ) (n : ℕ) (before : List ℕ) : Type 0 where
   pub long : length before ≡ 256
-  pub is : (k : ℕ) → k < n → Latest s k (lastAt s k) (getD before k 0)
+  pub is : (k : ℕ) → k < n → Latest s k (chainedBy s k) (getD before k 0)
 
 -- what the limits say of the counts that programs and registers are made of
 pub record Limited (s : List ℕ) : Type 0 where

@@ -257,7 +257,7 @@ fn shape_fits(s: &[u8], i: u8) -> bool
     kinds::takes(t.kind, second.kind)
 }
 
-// Whether record j is t. Of records with the same last part, x tells most apart, so it comes first.
+// Whether record j is t. In a chain x tells most records apart, so it comes first.
 fn is_record(s: &[u8], j: u8, t: Term) -> bool
     ensures { λ r. ⌜ r ≡ (eqb (kindAt (now (s .entry)) j) (t .kind) && (eqb (xAt (now (s .entry)) j) (t .x) && eqb (yAt (now (s .entry)) j) (t .y))) ⌝ }
 {
@@ -271,7 +271,7 @@ fn is_record(s: &[u8], j: u8, t: Term) -> bool
     u.y == t.y
 }
 
-// Whether an earlier record equals record i. Only those with its last part are compared, the latest first.
+// Whether an earlier record equals record i. Only those of its chain are compared, the latest first.
 fn is_repeated(s: &[u8], before: &[u8; 256], i: u8) -> bool
     requires { ⌜ Chained (now s) (i + 1) (now before) ⌝ }
     ensures { λ r. ⌜ r ≡ any (sameRecord (now (s .entry)) i) i ⌝ }
@@ -297,8 +297,8 @@ fn is_term_bad(s: &[u8], before: &[u8; 256], i: u8) -> bool
     true
 }
 
-// A record's last part is y, or x where there is one part. `before` has for each record the latest earlier one with its last part, and
-// `latest` for each byte the latest record with this last part; 255 stands for none, since a record's number is below 255.
+// Records are chained by y, and hashes, which all have y = 0, by x. `before` has for each record the latest earlier one of its chain, and
+// `latest` for each byte the latest record that is chained by it; 255 stands for none, since a record's number is below 255.
 pub fn check_terms(s: &[u8]) -> Stage
     ensures { λ r. ⌜ checkOf r ≡ failsAt 3 (first (badTerm (now (s .entry))) (termCount (now (s .entry)))) ⌝ }
 {
@@ -308,9 +308,9 @@ pub fn check_terms(s: &[u8]) -> Stage
     let mut i: u8 = 0;
     while i < n {
         let t = term_at(s, i);
-        let last = wide(kinds::second_part(t.kind, t.x, t.y));
-        before[wide(i)] = latest[last];
-        latest[last] = i;
+        let by = wide(kinds::second_part(t.kind, t.x, t.y));
+        before[wide(i)] = latest[by];
+        latest[by] = i;
         if is_term_bad(s, &before, i) {
             return Stage::Refused {
                 number: 3,

@@ -73,7 +73,7 @@ pub fn is_unary(kind: u8) -> bool
     rules::has_one(rule_of(kind))
 }
 
-// The second part of a compound record of this kind over x and y; one operand stands twice.
+// The second part of a record of this kind over x and y; one operand stands twice. Of an atom it is y.
 pub fn second_part(kind: u8, x: u8, y: u8) -> u8
     ensures { λ r. ⌜ r ≡ cond (isUnary (shapeOf kind)) x y ⌝ }
 {

@@ -22,7 +22,7 @@ newline = 0x0A ∷ []
 abbrev pub registerText : ℕ → List ℕ
 registerText r = 0x72 ∷ decimal r
 
--- "fst and snd show one register", A2: a hash too: the second register with its space, under a rule with two operands
+-- "fst and snd show one register"; A2: "it prints with one register". The second register with its space, under a rule with two operands
 abbrev pub secondText : ℕ → ℕ → List ℕ
 secondText rule second = cond (hasOne rule) [] (space ++ registerText second)
 

@@ -2,7 +2,7 @@
 //! and a claim that the reference accepts where one is found.
 
 use super::random::Random;
-use super::steps::{builds, possible, premises, Known};
+use super::steps::{builds, possible, premises, TermSet};
 use super::table::Table;
 use crate::bodies::Bodies;
 use crate::reference;
@@ -184,9 +184,9 @@ fn walk(
     most: usize,
 ) -> Vec<[u8; 4]> {
     let mut walk = Walk {
-        keys: Known::new(table, table.of_kinds(&Kind::locking())),
-        known: Known::new(table, knowledge.iter().copied().chain([guess])),
-        guessed: Known::new(table, [guess]),
+        keys: TermSet::new(table, table.of_kinds(&Kind::locking())),
+        known: TermSet::new(table, knowledge.iter().copied().chain([guess])),
+        guessed: TermSet::new(table, [guess]),
         steps: Vec::new(),
     };
     for _ in 0..random.between(1, most) {
@@ -202,10 +202,10 @@ fn walk(
 
 struct Walk {
     /// The terms that may be keys.
-    keys: Known,
-    known: Known,
+    keys: TermSet,
+    known: TermSet,
     /// What is known by steps that use the guess.
-    guessed: Known,
+    guessed: TermSet,
     steps: Vec<[u8; 4]>,
 }
 

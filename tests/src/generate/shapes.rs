@@ -298,9 +298,9 @@ impl Secrets {
     }
 }
 
-/// Encryptions under keys that have to be built: a key is `depth` hashes, one of the other, of a
-/// secret, or the secret itself where that is 0. Each hides the secret of the next; the first secret
-/// is known.
+/// Encryptions under keys that are `depth` hashes, one of the other, of a secret. Each hides the
+/// secret of the next; the first secret is known. With no depth the key is the secret itself, which
+/// has to be built only where the secrets are hashes.
 pub fn hash_key_chain(secrets: Secrets, links: usize, depth: usize, order: Order) -> Bodies {
     let mut frame = Frame::new();
     let secrets = secrets.list(&mut frame, links + 1, depth + 1);

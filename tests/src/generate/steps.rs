@@ -3,16 +3,16 @@
 use super::table::Table;
 use crate::tables::{padded, Opener, Rule};
 
-/// A set of terms by number: those known so far.
-pub struct Known(Vec<bool>);
+/// A set of terms, by number.
+pub struct TermSet(Vec<bool>);
 
-impl Known {
-    pub fn new(table: &Table, numbers: impl IntoIterator<Item = u8>) -> Known {
-        let mut known = Known(vec![false; table.records.len()]);
+impl TermSet {
+    pub fn new(table: &Table, numbers: impl IntoIterator<Item = u8>) -> TermSet {
+        let mut set = TermSet(vec![false; table.records.len()]);
         for number in numbers {
-            known.add(number);
+            set.add(number);
         }
-        known
+        set
     }
 
     pub fn add(&mut self, number: u8) {
@@ -25,7 +25,7 @@ impl Known {
 }
 
 /// All steps whose premises are known and whose conclusion is listed.
-pub fn possible(table: &Table, known: &Known) -> Vec<[u8; 4]> {
+pub fn possible(table: &Table, known: &TermSet) -> Vec<[u8; 4]> {
     table
         .numbers()
         .flat_map(|number| around(table, number))

@@ -52,7 +52,7 @@ pub fn deducible(submission: &[u8], number: u8) -> Checked<bool> {
 }
 
 /// The kinds of key on which it depends that the term with this number is deducible: it would not
-/// be if what is under keys of one such kind stayed shut.
+/// be if what is under keys of one such kind stayed shut. None where it isn't deducible.
 pub fn needed_keys(submission: &[u8], number: u8) -> Checked<Vec<Kind>> {
     let mut submission = Submission::read(submission)?;
     let Some(term) = submission.term(number).cloned() else {
@@ -62,7 +62,7 @@ pub fn needed_keys(submission: &[u8], number: u8) -> Checked<Vec<Kind>> {
         Deduction::without_keys(&mut submission.store, &submission.knowledge, shut).reaches(&term)
     };
     let keys = Kind::locking();
-    if is_deducible_without(&keys) {
+    if is_deducible_without(&keys) || !is_deducible_without(&[]) {
         return Ok(vec![]);
     }
     Ok(keys.into_iter().filter(|&kind| !is_deducible_without(&[kind])).collect())

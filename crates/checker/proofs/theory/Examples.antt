@@ -267,10 +267,10 @@ own =
     -- 3, place 2: a record is bad (enc of term 2, which is itself, and no earlier term; enca under g, which is no key of kind 2 or 3)
     ∷ refusal (sets (m1 .bytes) 23 (0x02 ∷ [])) 3 2 (0x33 ∷ 0x20 ∷ 0x32 ∷ [])
     ∷ refusal (sets (m1 .bytes) 22 (0x06 ∷ [])) 3 2 (0x33 ∷ 0x20 ∷ 0x32 ∷ [])
-    -- 3, place 2: a hash is bad (y not 0; x not an earlier term), and kind 8 is none
+    -- 3, place 2: a hash is bad (y not 0; x not an earlier term), and kind 9 is none
     ∷ refusal (sets (hashed .bytes) 24 (0x01 ∷ [])) 3 2 (0x33 ∷ 0x20 ∷ 0x32 ∷ [])
     ∷ refusal (sets (hashed .bytes) 23 (0x02 ∷ [])) 3 2 (0x33 ∷ 0x20 ∷ 0x32 ∷ [])
-    ∷ refusal (sets (hashed .bytes) 22 (0x08 ∷ [])) 3 2 (0x33 ∷ 0x20 ∷ 0x32 ∷ [])
+    ∷ refusal (sets (hashed .bytes) 22 (0x09 ∷ [])) 3 2 (0x33 ∷ 0x20 ∷ 0x32 ∷ [])
     -- 3, place 4: a record is bad (enca under hash(x), which may be the key of enc alone)
     ∷ refusal (sets (hash-key .bytes) 28 (0x06 ∷ [])) 3 4 (0x33 ∷ 0x20 ∷ 0x34 ∷ [])
     -- 4, place 1: an entry not below T (3)

@@ -1,5 +1,5 @@
 -- A2's promises hold.
-use mathlib.Core.Path.{_≡_, refl, sym, ap, ap₂, _∙_, subst}
+use mathlib.Core.Path.{_≡_, refl, sym, ap, _∙_, subst}
 use mathlib.Core.Logic.{_↔_, _⊎_, inl, inr, ⊎-elim}
 use mathlib.Core.Bool.{true, cond, false≢true}
 use mathlib.Core.List.{List, [], _∷_, _++_, append-nil}
@@ -9,12 +9,13 @@ use native.Mathlib.Omega.{arith}
 use Rattle.base.specs.Words.{Bytes}
 use Rattle.base.specs.Answer.{Clear}
 use Rattle.base.proofs.RefusalLaws.{passes-iff}
-use Rattle.term.specs.Term.{symmetric, hash, Form, Head, make, part, decrypt, Term, atom, node, Part, Shape, compound}
+use Rattle.term.specs.Term.{symmetric, pair, hash, encryption, Form, Head, make, part, decrypt, Term, atom, node, Part, compound}
 use Rattle.term.specs.Reduce.{op}
 use Rattle.term.specs.Step.{Step, Deducible, Undoes}
 use Rattle.term.specs.Number.{shapeOf, headOf, hasOne, wordOf}
 use Rattle.term.proofs.Kind.{kind-shape}
-use Rattle.term.proofs.Reach.{Reach, known, stepped, reach-opened, reach-iff}
+use Rattle.term.proofs.Reduce.{Reduces, op-cases}
+use Rattle.term.proofs.Reach.{known, stepped, reach-opened, reach-iff}
 use Rattle.term.proofs.Deducibility.{Built, given, made, Analysed, reach-is-built}
 use Rattle.submission.specs.Record.{terms, kindAt, xAt, yAt, ruleAt, qAt, term}
 use Rattle.submission.specs.Check.{Shaped, rows1to4}
@@ -92,6 +93,17 @@ module _ (x : Term) where
   unfolding size
   alone-hides d = omega (arith, built-larger (reach-is-built analysed x .0 (reach-iff Alone x .1 d)))
 
+-- ---- the machine
+hash-no-reduct : (h : Head) (x b r : Term) → Reduces h (hashOf x) b r → ⊥
+hash-no-reduct (make pair) x b r (y, z, e, f) = let o : _≡_ {A = ℕ} 0 1 = cc in omega arith
+hash-no-reduct (make hash) x b r u = u
+hash-no-reduct (make (encryption c)) x b r (k, e, m) = let o : _≡_ {A = ℕ} 0 1 = cc in omega arith
+hash-no-reduct (part i) x b r (y, z, e, f) = let o : _≡_ {A = ℕ} 0 1 = cc in omega arith
+hash-no-reduct (decrypt c) x b r (k, e, m) = let o : _≡_ {A = ℕ} 0 1 = cc in omega arith
+
+hash-irreducible : (h : Head) (x b : Term) → op h (hashOf x) b ≡ node h (hashOf x) b
+hash-irreducible h x b = ⊎-elim (λ (r, u, e). absurd (hash-no-reduct h x b r u)) (λ e. e) (op-cases h (hashOf x) b)
+
 -- ---- the text
 one-register : (l : List ℕ) (rule second : ℕ) → hasOne rule ≡ true → l ++ secondText rule second ≡ l
 one-register l rule second e = ap (λ b. l ++ cond b [] (space ++ registerText second)) e ∙ append-nil l
@@ -120,5 +132,6 @@ hash-promise = record {
   shut = hash-shut;
   oneWay = alone-hides;
   unreduced = λ a b. refl;
+  irreducible = hash-irreducible;
   printed = hash-printed;
 }
