@@ -10,7 +10,7 @@ use lib.ListN.{length}
 use borrow.Author.Tests.{ne-eqb}
 use Rattle.base.specs.Words.{grow, listed}
 use Rattle.base.proofs.Says.{Says, says-eqb}
-use Rattle.term.specs.{Term.plain, Term.public, Term.private, Term.symmetric, Term.asymmetric, Term.Form, Term.pair, Term.hash, Term.encryption, Term.Second, Term.absent, Term.anything, Term.keyFor, Term.make, Term.single, Computed.takes, Term.Shape, Term.atomic, Term.compound, Computed.shape?, Computed.isAtomic, Term.isKeyFor, Number.kinds, Number.shapeOf, Computed.kindOf, Computed.inverseKinds}
+use Rattle.term.specs.{Term.plain, Term.public, Term.private, Term.Cipher, Term.symmetric, Term.asymmetric, Term.Form, Term.pair, Term.hash, Term.encryption, Term.Second, Term.absent, Term.anything, Term.keyFor, Term.make, Term.single, Computed.takes, Term.Shape, Term.atomic, Term.compound, Computed.shape?, Computed.isAtomic, Term.isKeyFor, Number.kinds, Number.shapeOf, Computed.kindOf, Computed.inverseKinds}
 use Rattle.term.specs.Code.{isUnary, builderOf, secondOf, ruleOf}
 use Rattle.term.specs.Number.{rules, headOf, hasOne}
 use Rattle.term.proofs.Numbered.{Arms, choice, allBelow, choice-is, entry-past, entry-place}
@@ -58,17 +58,19 @@ kind-column : {A : Type 0} (c : Option Shape → A) (l : Arms A) → listed (cho
     allBelow l (suc (length kinds)) ≡ true → (n : ℕ) → choice l (c none) n ≡ c (shapeOf n)
 kind-column c l e f n = choice-is l (c none) (λ n. c (shapeOf n)) (suc (length kinds)) e f (λ n b. ap c (shape-past n b)) n
 
-pub key : (n : ℕ) {r : Bool} → r ≡ choice ((2, true) ∷ (3, true) ∷ []) false n → r ≡ isKeyFor asymmetric (shapeOf n)
-unfolding shapeOf grow
-key n e = e ∙ kind-column (isKeyFor asymmetric) ((2, true) ∷ (3, true) ∷ []) refl refl n
+-- the kinds whose terms may be keys
+abbrev keys : Cipher → Arms Bool
+keys symmetric = (1, true) ∷ (7, true) ∷ []
+keys asymmetric = (2, true) ∷ (3, true) ∷ []
 
-pub symmetric-key : (n : ℕ) {r : Bool} → r ≡ choice ((1, true) ∷ (7, true) ∷ []) false n → r ≡ isKeyFor symmetric (shapeOf n)
+pub key : (c : Cipher) (n : ℕ) {r : Bool} → r ≡ choice (keys c) false n → r ≡ isKeyFor c (shapeOf n)
 unfolding shapeOf grow
-symmetric-key n e = e ∙ kind-column (isKeyFor symmetric) ((1, true) ∷ (7, true) ∷ []) refl refl n
+key symmetric n e = e ∙ kind-column (isKeyFor symmetric) (keys symmetric) refl refl n
+key asymmetric n e = e ∙ kind-column (isKeyFor asymmetric) (keys asymmetric) refl refl n
 
 pub atom : (n : ℕ) {r : Bool} → r ≡ choice ((1, true) ∷ []) (isKeyFor asymmetric (shapeOf n)) n → r ≡ isAtomic (shapeOf n)
 unfolding shapeOf grow
-atom n e = e ∙ rw (← (key n refl)) (kind-column isAtomic ((1, true) ∷ (2, true) ∷ (3, true) ∷ []) refl refl n)
+atom n e = e ∙ rw (← (key asymmetric n refl)) (kind-column isAtomic ((1, true) ∷ (2, true) ∷ (3, true) ∷ []) refl refl n)
 
 -- the rule that builds the kind n
 abbrev builders : Arms ℕ
@@ -98,7 +100,7 @@ second-operand n j o f e = f ∙ ap (λ o. takes o (shapeOf j)) (e ∙ kind-colu
 
 -- what is no key has no inverse
 pub no-inverse : (k j : ℕ) → isKeyFor asymmetric (shapeOf k) ≡ false → inverseKinds k j ≡ false
-no-inverse k j e = go (eqb k 2) (eqb k 3) (key k refl ∙ e)
+no-inverse k j e = go (eqb k 2) (eqb k 3) (key asymmetric k refl ∙ e)
   where
     go : (a b : Bool) → cond a true (cond b true false) ≡ false → ((a && eqb j 3) || (b && eqb j 2)) ≡ false
     go true b f = absurd (true≢false f)
