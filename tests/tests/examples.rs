@@ -2,8 +2,9 @@
 
 use checker_tests::bodies::Bodies;
 use checker_tests::examples::{file, names, submission};
+use checker_tests::generate::UNLISTED;
 use checker_tests::notation::{assemble, show};
-use checker_tests::reference::{contents, verdict, write};
+use checker_tests::reference::{contents, is_wrong_guess, program, verdict, write};
 use checker_tests::tables::{Kind, Rule, LONGEST_SUBMISSION};
 
 fn text(name: &str, extension: &str) -> String {
@@ -134,6 +135,16 @@ fn each_listed_term_is_needed() {
 /// Those of the two bytes that number operands of the rule, if there is one.
 fn operands(rule: Option<Rule>, bytes: &[u8; 2]) -> &[u8] {
     &bytes[..rule.map_or(0, Rule::operands)]
+}
+
+#[test]
+fn the_unlisted_name_is_a_wrong_guess_of_each() {
+    for name in names() {
+        let submission = submission(&name);
+        if program(&submission).is_ok() {
+            assert_eq!(is_wrong_guess(&submission, UNLISTED), Ok(true), "{name}");
+        }
+    }
 }
 
 /// What stands beside the program `published`, which the gate runs: all examples, each after its

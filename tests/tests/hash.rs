@@ -7,7 +7,8 @@ use checker_tests::reference::{
 };
 use checker_tests::tables::Kind;
 
-/// A message under a hash of the guess and a nonce is known, and so is what it says. Term 0, which the unused bytes of a hash would number, is known to nobody.
+/// A message under a hash of the guess and a nonce is known, and so is what it says. Term 0, which
+/// the unused bytes of a hash would number, is known to nobody.
 const LOGIN: &str = "
 terms
   z
@@ -141,28 +142,25 @@ fn the_premise_has_to_be_known() {
     assert_eq!(verdict_on(|bodies| bodies.derivation.swap(0, 1)), "refused 7 0\n");
 }
 
-/// As the verifying step: its only premise is the guess, the hash of which is known.
-#[test]
-fn a_hash_may_verify() {
-    let found = first_line_on(|bodies| {
-        bodies.terms.push([HASH, G, 0]);
+/// The only step, which verifies, hashes the term, and this hash is known.
+fn verified_by_hashing(term: u8) -> String {
+    first_line_on(|bodies| {
+        bodies.terms.push([HASH, term, 0]);
         bodies.knowledge.push(7);
-        bodies.derivation = vec![[HASH, G, 0, 7]];
+        bodies.derivation = vec![[HASH, term, 0, 7]];
         bodies.claim[1] = 0;
-    });
-    assert_eq!(found, "accepted 1");
+    })
+}
+
+#[test]
+fn a_hash_of_the_guess_verifies_it() {
+    assert_eq!(verified_by_hashing(G), "accepted 1");
 }
 
 /// Term 0 is not deducible, but it is no premise of the step.
 #[test]
 fn the_0_is_not_in_the_set_of_premises() {
-    let found = verdict_on(|bodies| {
-        bodies.terms.push([HASH, N, 0]);
-        bodies.knowledge.push(7);
-        bodies.derivation = vec![[HASH, N, 0, 7]];
-        bodies.claim[1] = 0;
-    });
-    assert_eq!(found, "refused 8 0\n");
+    assert_eq!(verified_by_hashing(N), "refused 8 0");
 }
 
 /// The hash is concluded by hashing and by a decryption; a copy of a step is no second way.
@@ -243,6 +241,7 @@ fn what_depends_on_a_hash_as_a_key() {
     assert_eq!(needed(&[MH, G, N], M), [Kind::Hash]);
     assert_eq!(needed(&[MH, G, N, M], M), []);
     assert_eq!(needed(&[MH, G, N], H), []);
+    assert_eq!(needed(&[MH, G], M), []);
 }
 
 #[test]

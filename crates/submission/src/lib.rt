@@ -308,9 +308,9 @@ pub fn check_terms(s: &[u8]) -> Stage
     let mut i: u8 = 0;
     while i < n {
         let t = term_at(s, i);
-        let by = wide(kinds::second_part(t.kind, t.x, t.y));
-        before[wide(i)] = latest[by];
-        latest[by] = i;
+        let chain = wide(kinds::second_part(t.kind, t.x, t.y));
+        before[wide(i)] = latest[chain];
+        latest[chain] = i;
         if is_term_bad(s, &before, i) {
             return Stage::Refused {
                 number: 3,

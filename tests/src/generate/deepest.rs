@@ -3,7 +3,7 @@
 
 use super::program::repeated;
 use super::shapes::{self, Nesting};
-use super::{right_name, Form, Input};
+use super::{right_name, Form, Input, UNLISTED};
 use crate::bodies::Bodies;
 use crate::tables::{Body, Rule, LONGEST_PROGRAM, LONGEST_SUBMISSION};
 
@@ -37,7 +37,7 @@ fn input(bodies: &Bodies) -> Input {
         asked: vec![terms - 3, terms - 2, terms - 1, 0, terms],
         runs: programs(bodies).into_iter().map(|program| (right, program)).collect(),
         right,
-        names: vec![u16::MAX],
+        names: vec![UNLISTED],
         forms: vec![Form::new(bodies.bytes(), LONGEST_SUBMISSION)],
         submission,
     }

@@ -43,6 +43,9 @@ pub struct Input {
     pub forms: Vec<Form>,
 }
 
+/// A name that no example and no deepest input lists, and so that of a wrong guess.
+pub const UNLISTED: u16 = u16::MAX;
+
 /// How many protocols are kept for changing them.
 const KEPT: usize = 64;
 
@@ -76,6 +79,14 @@ impl Source {
             submission,
             page,
         }
+    }
+
+    /// What to try with a published example: the page is long enough, and a wrong guess is run.
+    pub fn example(&mut self, submission: Vec<u8>) -> Input {
+        let mut input = self.input(submission);
+        input.page = self.random.bytes(LONGEST_PROGRAM);
+        input.names.push(UNLISTED);
+        input
     }
 
     fn submission(&mut self) -> Vec<u8> {

@@ -51,8 +51,9 @@ fn compare(seed: u64, count: u64) -> Result<(), String> {
     let mut source = Source::new(seed);
     let examples: Vec<_> = examples::names()
         .into_iter()
-        .map(|name| (format!("example {name}"), source.input(examples::submission(&name))))
+        .map(|name| (format!("example {name}"), source.example(examples::submission(&name))))
         .collect();
+    each_is_told_apart(&examples)?;
     compare_inputs("examples", &examples, &mut tally)?;
     for first in (0..count).step_by(BATCH as usize) {
         let numbers = first..count.min(first + BATCH);
@@ -67,6 +68,18 @@ fn compare(seed: u64, count: u64) -> Result<(), String> {
         start.elapsed().as_secs_f64()
     );
     tally.complete()
+}
+
+/// Fails where one of the inputs would be accepted and its program is not run with a wrong guess.
+fn each_is_told_apart(inputs: &[(String, Input)]) -> Result<(), String> {
+    for (title, input) in inputs {
+        let Ok(program) = reference::program(&input.submission) else { continue };
+        let is_wrong = |&name: &u16| reference::is_wrong_guess(&input.submission, name) == Ok(true);
+        if input.page.len() < program.len() || !input.names.iter().any(is_wrong) {
+            return Err(format!("{title}: its program is run with no wrong guess"));
+        }
+    }
+    Ok(())
 }
 
 /// Every call on every input, each of which has a title, on both sides.
