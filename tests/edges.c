@@ -70,6 +70,7 @@ static void try_offset(size_t offset)
     expect("deducible", 0, checker_deducible(sub + offset, sizeof M1, 1));
     expect("run, right", 1, checker_run(sub + offset, sizeof M1, 2, page + offset, sizeof M1_PAGE));
     expect("run, wrong", 0, checker_run(sub + offset, sizeof M1, 3, page + offset, sizeof M1_PAGE));
+    expect("run, stale", REFUSED(15, 0), checker_run(sub + offset, sizeof M1, 1, page + offset, sizeof M1_PAGE));
     expect("run, a byte short", REFUSED(13, 0), checker_run(sub + offset, sizeof M1, 2, page + offset, sizeof M1_PAGE - 1));
 }
 

@@ -36,6 +36,11 @@ impl Bodies {
     }
 }
 
+/// The name in an atom's record.
+pub fn name([_, high, low]: [u8; 3]) -> u16 {
+    u16::from_be_bytes([high, low])
+}
+
 /// The submission with these bodies: contents first. Unlike the reference's `write` it looks at no
 /// limit, so that samples can break them. The counts are the numbers of whole records.
 pub fn submission(bodies: BodyBytes) -> Vec<u8> {

@@ -1,6 +1,6 @@
 //! The reference on hashes: kind 7 and rule 7, each reading of the request by itself.
 
-use checker_tests::bodies::Bodies;
+use checker_tests::bodies::{self, Bodies};
 use checker_tests::notation::assemble;
 use checker_tests::reference::{
     code, deducible, is_wrong_guess, needed_keys, program, run, verdict, REFUSAL,
@@ -263,10 +263,7 @@ fn a_program_has_one_register_and_0() {
 fn wrong_guesses_look_into_a_hash() {
     let bodies = Bodies { knowledge: vec![MH], ..login() };
     let submission = bodies.submission();
-    let name = |term: u8| {
-        let [_, high, low] = bodies.terms[usize::from(term)];
-        u16::from_be_bytes([high, low])
-    };
+    let name = |term: u8| bodies::name(bodies.terms[usize::from(term)]);
     assert_eq!(is_wrong_guess(&submission, name(Z)), Ok(true));
     for part in [N, M] {
         assert_eq!(is_wrong_guess(&submission, name(part)), Ok(false), "{part}");

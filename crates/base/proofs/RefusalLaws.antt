@@ -120,18 +120,23 @@ pub tells-room : (needed room : ℕ) → Tells (checkRoom needed room) (row11 ne
 tells-room needed room = tells-if (ltb room needed) 11 needed (says-ltb room needed)
 
 -- ---- one check after the other; the later one may rest on what the earlier one found clear
-before-refuses : (rows later : List (ℕ → ℕ → Type 0)) (n p : ℕ) → Refuses rows n p → Refuses (rows ++ later) n p
+pub before-refuses : (rows later : List (ℕ → ℕ → Type 0)) (n p : ℕ) → Refuses rows n p → Refuses (rows ++ later) n p
 before-refuses [] later n p r = absurd r
 before-refuses (a ∷ rows) later n p (inl r) = inl r
 before-refuses (a ∷ rows) later n p (inr (c, r)) = inr (c, before-refuses rows later n p r)
 
-after-refuses : (rows later : List (ℕ → ℕ → Type 0)) (n p : ℕ) → Clear rows → Refuses later n p → Refuses (rows ++ later) n p
+pub after-refuses : (rows later : List (ℕ → ℕ → Type 0)) (n p : ℕ) → Clear rows → Refuses later n p → Refuses (rows ++ later) n p
 after-refuses [] later n p c r = r
 after-refuses (a ∷ rows) later n p c r = inr (c .0, after-refuses rows later n p (c .1) r)
 
-both-clear : (rows later : List (ℕ → ℕ → Type 0)) → Clear rows → Clear later → Clear (rows ++ later)
+pub both-clear : (rows later : List (ℕ → ℕ → Type 0)) → Clear rows → Clear later → Clear (rows ++ later)
 both-clear [] later c d = d
 both-clear (a ∷ rows) later c d = (c .0, both-clear rows later (c .1) d)
+
+pub refuses-split : (rows later : List (ℕ → ℕ → Type 0)) (n p : ℕ) → Refuses (rows ++ later) n p → Refuses rows n p ⊎ (Clear rows × Refuses later n p)
+refuses-split [] later n p r = inr (tt, r)
+refuses-split (a ∷ rows) later n p (inl r) = inl (inl r)
+refuses-split (a ∷ rows) later n p (inr (c, r)) = ⊎-elim (λ x. inl (inr (c, x))) (λ (d, x). inr ((c, d), x)) (refuses-split rows later n p r)
 
 pub clear-split : (rows later : List (ℕ → ℕ → Type 0)) → Clear (rows ++ later) → Clear rows × Clear later
 clear-split [] later c = (tt, c)

@@ -4,3 +4,4 @@ pub mod FromCalls
 pub mod HashLaws
 pub mod LongInput
 pub mod PromiseExamples
+pub mod StaleLaws

@@ -11,5 +11,5 @@ use Rattle.conditions.specs.{Condition.checkRows, Computed.checkAnswer}
 pub record Demand1 : Type 0 where
   pub check : (s : List ℕ) → Bytes s → (room : ℕ) (a : Answer) → (checkAnswer s room ≡ a) ↔ Answers (checkRows s room) (λ n. n ≡ steps s) a
   pub deducible : (s : List ℕ) → Bytes s → (n : ℕ) (a : Answer) → (deducibleAnswer s n ≡ a) ↔ Answers (deducibleRows s n) (DeducibleValue s n) a
-  pub run : (s P : List ℕ) → Bytes s → (name : ℕ) (a : Answer) → (runAnswer s name P ≡ a) ↔ Answers (runRows s P) (λ v. v ≡ signal s name P) a
+  pub run : (s P : List ℕ) → Bytes s → (name : ℕ) (a : Answer) → (runAnswer s name P ≡ a) ↔ Answers (runRows s name P) (λ v. v ≡ signal s name P) a
   pub write : (b : Bodies) (room : ℕ) (a : Answer) → (writeAnswer b room ≡ a) ↔ Answers (writeRows b room) (λ n. n ≡ length (submissionOf b)) a

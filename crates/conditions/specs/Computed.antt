@@ -4,11 +4,11 @@ use mathlib.Core.{Bool.Bool, Bool.false, Bool._&&_, Bool._||_, Bool.not, List.Li
 use Prim.Native.Nat.{ℕ}
 use lib.Dec.{eqb}
 use Rattle.term.specs.Computed.{ruleTakesApart}
-use Rattle.submission.specs.{Record.steps, Record.ruleAt, Record.pAt, Record.conclusionAt, Record.verifying, Record.wayAt, Record.companion, Computed.areInverse, Check.Way, Check.another-step, Check.at-start, Check.inverse-key, Check.wayOf, Check.row, Record.secondAt, Record.guess, Record.nameAt, Computed.checks1to5, Computed.isFresh}
+use Rattle.submission.specs.{Record.steps, Record.ruleAt, Record.pAt, Record.conclusionAt, Record.verifying, Record.wayAt, Record.companion, Computed.areInverse, Check.Way, Check.another-step, Check.at-start, Check.inverse-key, Check.wayOf, Check.row, Record.secondAt, Record.guess, Record.nameAt, Record.guessed, Computed.checks1to5}
 use Rattle.derivation.specs.Computed.{isKnown, checkSteps}
 use Rattle.deduction.specs.Computed.{entryMarks, isDeducible}
 use Rattle.program.specs.Program.{programLength}
-use Rattle.machine.specs.Run.{guessed}
+use Rattle.submission.specs.Computed.{isStale}
 use Rattle.base.specs.{Words.first, Answer.Answer, Answer.done, Computed.Check, Computed.failsAt, Computed.failsIf, Computed.checkRoom, Computed.andThen, Computed.answered}
 
 -- condition 3 is broken: every premise of the verifying step is deducible from the knowledge, in which the guess does not count
@@ -69,4 +69,4 @@ checkAnswer s room =
 
 -- a wrong guess, as a test (`says-wrong`)
 unfoldable pub isWrongGuess : List ℕ → ℕ → Bool
-isWrongGuess s name = not (eqb name (nameAt s (guess s))) && isFresh s (guessed s name)
+isWrongGuess s name = not (eqb name (nameAt s (guess s))) && not (isStale s (guessed s name))

@@ -1,9 +1,9 @@
 -- Demands 2 and 3. What the definitions promise; the contracts of the calls say that the code answers what they give.
 use Rattle.base.specs.{Words._≡_, Words._↔_, Words.List, Words.ℕ, Words._≤_, Words.length, Words.take, Words.drop, Words.Bytes, Answer.done, Answer.pageAfter}
 use Rattle.term.specs.Term.{Fresh}
-use Rattle.submission.specs.Record.{steps, guess, nameAt, InKnowledge}
+use Rattle.submission.specs.Record.{steps, guess, nameAt, InKnowledge, guessed}
 use Rattle.program.specs.Program.{bytesOf, programLength}
-use Rattle.machine.specs.{Run.guessed, Computed.runAnswer}
+use Rattle.machine.specs.Computed.{runAnswer}
 use Rattle.conditions.specs.{Condition.WellFormed, Condition.FiveConditions, Calls.program, Computed.checkAnswer}
 
 -- Demand 2: "A submission is accepted exactly when it is well formed, meets the five conditions of document 01 and has a page long enough", and the
@@ -34,3 +34,9 @@ abbrev pub Demand3 : Type 0
 Demand3 =
     (s page : List ℕ) → Bytes s → (n : ℕ) → checkAnswer s (length page) ≡ done n →
     KeptPromise s page n (pageAfter (checkAnswer s (length page)) (bytesOf (program s)) page)
+
+-- Demand 3 in the other wording, which A3 allows: every name that run takes, other than the guess's own, signals 0 on the page of an acceptance
+abbrev pub Demand3Taken : Type 0
+Demand3Taken =
+    (s page : List ℕ) → Bytes s → (n : ℕ) → checkAnswer s (length page) ≡ done n → (name : ℕ) → (name ≡ nameAt s (guess s) → ⊥) →
+    (v : ℕ) → runAnswer s name (take (programLength n) (pageAfter (checkAnswer s (length page)) (bytesOf (program s)) page)) ≡ done v → v ≡ 0

@@ -1,12 +1,12 @@
 -- What the code's structs and enums mean in document 01's terms.
 -- Values can be exponentially large as trees, so the machine holds them shared: a table of nodes, no two equal, and registers with their numbers.
 use Rattle.term.specs.Term as words
-use mathlib.Core.{Path._≡_, Bool.Bool, Bool._&&_, Bool._||_, Bool.cond, List.List, List.[], List._∷_, List._++_, Option.Option, Option.none, Option.some}
+use mathlib.Core.{Path._≡_, Bool.Bool, Bool.true, Bool.false, Bool._&&_, Bool._||_, Bool.cond, List.List, List.[], List._∷_, List._++_, Option.Option, Option.none, Option.some}
 use Prim.Native.Nat.{ℕ, _+_, _-_, _≤_, _<_}
 use lib.{Dec.eqb, Dec.ltb, Dec.leb, ListN.length, ListN.getD, ListN.set}
-use Rattle.base.specs.{Words.first, Words.listed, Computed.passes, Words.Bytes}
-use Rattle.term.specs.{Term.Kind, Term.public, Term.private, Term.left, Term.right, Term.part, Term.atomic, Term.Term, Number.shapeOf, Computed.kindOf, Term.Rec, Term.leaf, Term.branch, Term.decoded, Term.void, Code.Table, Code.ruleOf, Number.rules, Number.headOf}
-use Rattle.submission.specs.{Record.terms, Record.entries, Record.entryAt, Record.term, Computed.checks1to5}
+use Rattle.base.specs.Words.{first, listed}
+use Rattle.term.specs.{Term.Kind, Term.public, Term.private, Term.left, Term.right, Term.part, Term.atomic, Term.Term, Term.atomKind, Number.shapeOf, Computed.kindOf, Term.Rec, Term.leaf, Term.branch, Term.decoded, Term.void, Code.Table, Code.ruleOf, Number.rules, Number.headOf}
+use Rattle.submission.specs.{Record.terms, Record.entries, Record.entryAt, Record.guess, Record.kindAt, Record.recordAt, Record.term, Code.KnownPart}
 use Rattle.machine.specs.declared.Node.{Node}
 use Rattle.machine.specs.declared.Machine.{Machine}
 use Rattle.machine.specs.declared.Found.{Found}
@@ -17,7 +17,7 @@ use Rattle.machine.specs.declared.Cipher.the-variants.{Symmetric, Asymme
 use Rattle.machine.specs.declared.Side.{Side}
 use Rattle.machine.specs.declared.Side.the-variants.{Left, Right}
 use Rattle.program.specs.Program.{Instruction, operand}
-use Rattle.machine.specs.Run.{atomKind, initial, registers}
+use Rattle.machine.specs.Run.{initial, registers}
 
 -- ---- small enums
 abbrev pub sideOf : Side → words.Side
@@ -160,14 +160,13 @@ pub record Executable (m : Machine) (i : Instruction) : Type 0 where
   pub space : m .used < 256
 
 -- ---- a run
--- bytes that passed checks 1 to 5
-pub record SubmissionRead (s : List ℕ) : Type 0 where
-  pub bytes : Bytes s
-  pub passed : checks1to5 s ≡ passes
-
 -- the first n registers: "Registers 0 to K-1 hold the knowledge in order"
 abbrev pub knowledge : List ℕ → ℕ → List Term
 knowledge s n = listed (λ i. term s (entryAt s i)) n
+
+-- the arrays hold the terms' nodes, by their numbers
+pub record TermNodes (s heads lefts rights : List ℕ) : Type 0 where
+  pub is : (k : ℕ) → k < terms s → nodeOf heads lefts rights k ≡ nodeFor (recordAt s k)
 
 -- the state m holds the submission's terms, by their numbers, and these values
 pub record Loaded (s : List ℕ) (vs : List Term) (m : Machine) : Type 0 where
@@ -175,6 +174,66 @@ pub record Loaded (s : List ℕ) (vs : List Term) (m : Machine) : Type 0 where
   pub used : m .used ≡ length vs
   pub nodes : m .nodes ≡ terms s
   pub is : (k : ℕ) → termAt m k ≡ term s k
+  pub records : TermNodes s (m .heads) (m .lefts) (m .rights)
+  pub long : length (m .registers) ≡ 256
+
+-- ---- stale names
+-- the atom of the guess's kind with this name
+abbrev pub guessNode : List ℕ → ℕ → Node
+guessNode s name = record { head = atoms + kindAt s (guess s); left = name; right = 0 }
+
+-- the inverse of a key; any other node is its own
+abbrev pub inverseHead : ℕ → ℕ
+inverseHead h = cond (eqb h (atomHead public)) (atomHead private) (cond (eqb h (atomHead private)) (atomHead public) h)
+
+abbrev pub inverseNode : Node → Node
+inverseNode v = record { head = inverseHead (v .head); left = v .left; right = v .right }
+
+-- the number of the node v, where it is one of the first n
+abbrev pub numberIn : List ℕ → List ℕ → List ℕ → ℕ → Node → Found
+numberIn heads lefts rights n v = foundOf (first (isNodeFrom heads lefts rights v 0) n)
+
+abbrev pub isAt : Found → Bool
+isAt (At k) = true
+isAt Nothing = false
+
+-- the records of the nodes in the state's arrays
+abbrev pub recordsIn : List ℕ → List ℕ → List ℕ → ℕ → Rec
+recordsIn heads lefts rights k = recordFor (nodeOf heads lefts rights k)
+
+-- the marks l, with the parts of a record marked too
+abbrev pub withParts : Rec → List ℕ → List ℕ
+withParts (leaf κ n) l = l
+withParts (branch h x y) l = set (set l x 1) y 1
+
+-- the marks l, with the parts of the record t marked too where t is
+abbrev pub treated : (ℕ → Rec) → ℕ → List ℕ → List ℕ
+treated rec t l = cond (eqb (getD l t 0) 1) (withParts (rec t) l) l
+
+-- the terms that l marks are those that are part of the knowledge
+pub record PartMarks (s l : List ℕ) : Type 0 where
+  pub long : length l ≡ 256
+  pub known : (n : ℕ) → n < terms s → getD l n 0 ≡ 1 → KnownPart s (term s n)
+  pub whole : (x : Term) → KnownPart s x → (n : ℕ) × (n < terms s) × ((getD l n 0 ≡ 1) × (x ≡ term s n))
+
+abbrev pub isMarked : List ℕ → Found → Bool
+isMarked l (At k) = eqb (getD l k 0) 1
+isMarked l Nothing = false
+
+-- one of the two is marked, by marks of what is part of the knowledge
+pub record SomeMarked (s : List ℕ) (found other : Found) (r : Bool) : Type 0 where
+  pub marks : List ℕ
+  pub parts : PartMarks s marks
+  pub is : r ≡ (isMarked marks found || isMarked marks other)
+
+-- the number of the guess's node after n terms, and how many nodes there are with it
+abbrev pub numberOf : Found → ℕ → ℕ
+numberOf (At k) n = k
+numberOf Nothing n = n
+
+abbrev pub nodesWith : Found → ℕ → ℕ
+nodesWith (At k) n = n
+nodesWith Nothing n = n + 1
 
 -- the state m is that before the first instruction
 pub record Started (s : List ℕ) (name : ℕ) (m : Machine) : Type 0 where

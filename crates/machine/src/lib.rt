@@ -1,7 +1,7 @@
 // The machine that runs a register program over terms.
 // Promises: every function is total, for all bytes, and its answer is what the definitions of specs/ give.
 // Cost, for T terms and N instructions: terms are held shared, so an instruction adds at most one node, however large its term is as a
-// tree, after one look through at most T + 1 + N nodes.
+// tree, after one look through at most T + 1 + N nodes. Whether a name is stale takes one look at each term.
 use base::Answer;
 use program::Asked;
 use program::Instruction;
@@ -11,21 +11,24 @@ use term::kinds;
 use term::rules;
 ghost use mathlib.Core.Path.{_≡_};
 ghost use mathlib.Core.Bool.{false, cond, _&&_};
-ghost use mathlib.Core.List.{[]};
 ghost use Prim.Native.Nat.{_+_, _≤_, _<_};
 ghost use lib.Dec.{eqb};
-ghost use Rattle.base.specs.Words.{first, byte as byteAt};
+ghost use lib.ListN.{length};
+ghost use Rattle.base.specs.Words.{first};
 ghost use Rattle.term.specs.Term.{pair, make, pick};
-ghost use Rattle.term.specs.Code.{ruleOf, relationIs};
+ghost use Rattle.term.specs.Code.{ruleOf, relationIs, Below};
 ghost use Rattle.submission.specs.Record.{terms as termCount, entries as entryCount, recordAt};
+ghost use Rattle.submission.specs.Code.{SubmissionRead};
+ghost use Rattle.deduction.specs.Code.{TableRead};
 ghost use mathlib.Core.Option.{some};
 ghost use Rattle.program.specs.Program.{relationOf, testAt};
 ghost use Rattle.program.specs.Code.{instructionIn};
-ghost use Rattle.machine.specs.Run.{executed as executedTerm, signals};
-ghost use Rattle.base.specs.Answer.{answerOf};
-ghost use Rattle.machine.specs.Computed.{runAnswer};
-ghost use Rattle.machine.specs.Code.{sideOf, nodeFor, nodeOf, operandsOf, sameNode, partsOfOne, inverseNodes, matchNodes, isNodeFrom, foundOf, orFound, valueOf, when, values, Executable, Valued, Gives, SubmissionRead, knowledge, Loaded, Started, Running, Testable};
+ghost use Rattle.machine.specs.Run.{executed as executedTerm, signals, signal as signalOf};
+ghost use Rattle.base.specs.Answer.{answerOf, done};
+ghost use Rattle.base.specs.Computed.{failsIf, answered};
 ghost use Rattle.program.specs.Computed.{badProgram};
+ghost use Rattle.machine.specs.Computed.{isStaleName, runAnswer};
+ghost use Rattle.machine.specs.Code.{sideOf, nodeFor, nodeOf, operandsOf, sameNode, partsOfOne, inverseNodes, matchNodes, isNodeFrom, foundOf, orFound, valueOf, when, values, Executable, Valued, Gives, knowledge, Loaded, Started, Testable, guessNode, recordsIn, TermNodes, treated, PartMarks, isMarked, SomeMarked, inverseHead, inverseNode, numberIn, isAt, numberOf, nodesWith};
 
 // ---- Terms as nodes.
 
@@ -341,27 +344,26 @@ fn node_of(s: &[u8], t: u8) -> Node
 {
     let term = submission::term_at(s, t);
     let kind = term.kind;
-    let x = base::wide16(term.x);
     if kinds::is_atom(kind) {
-        let y = base::wide16(term.y);
         return Node {
             head: ATOM + kind,
-            left: x * 256 + y,
+            left: submission::name_of(term),
             right: 0,
         };
     }
     let second = kinds::second_part(kind, term.x, term.y);
     Node {
         head: kinds::rule_of(kind),
-        left: x,
+        left: base::wide16(term.x),
         right: base::wide16(second),
     }
 }
 
-// The state that holds the terms, each under its own number.
-fn with_terms(s: &[u8]) -> Machine
+// The state that holds the terms, each under its own number, and the knowledge in the first registers. It is filled in one function: a state
+// that is handed on is copied.
+fn with_knowledge(s: &[u8]) -> Machine
     requires { ⌜ SubmissionRead (now s) ⌝ }
-    ensures { λ r. ⌜ Loaded (now (s .entry)) [] r ⌝ }
+    ensures { λ r. ⌜ Loaded (now (s .entry)) (knowledge (now (s .entry)) (entryCount (now (s .entry)))) r ⌝ }
 {
     let mut m = empty();
     let n = submission::terms(s);
@@ -373,54 +375,212 @@ fn with_terms(s: &[u8]) -> Machine
         m.rights[k] = v.right;
     }
     m.nodes = base::wide16(n);
-    m
-}
-
-// The state that holds the terms, and the knowledge in the first registers.
-fn with_knowledge(s: &[u8]) -> Machine
-    requires { ⌜ SubmissionRead (now s) ⌝ }
-    ensures { λ r. ⌜ Loaded (now (s .entry)) (knowledge (now (s .entry)) (entryCount (now (s .entry)))) r ⌝ }
-{
-    let mut m = with_terms(s);
-    let n = submission::entries(s);
-    for i in 0..n {
-        let t = base::wide16(submission::entry_at(s, i));
+    let entries = submission::entries(s);
+    for i in 0..entries {
         let used = m.used;
-        let k = index(used);
-        m.registers[k] = t;
+        let r = index(used);
+        m.registers[r] = base::wide16(submission::entry_at(s, i));
         m.used = used + 1;
     }
     m
 }
 
-// The state before the first instruction: the guess register holds the atom of the guess's kind with this name.
-fn initial(s: &[u8], name: u16) -> Machine
+// The atom of the guess's kind with this name, as a node.
+fn guess_node(s: &[u8], name: u16) -> Node
     requires { ⌜ SubmissionRead (now s) ⌝ }
-    ensures { λ r. ⌜ Started (now (s .entry)) name r ⌝ }
+    ensures { λ r. ⌜ r ≡ guessNode (now (s .entry)) name ⌝ }
 {
-    let m = with_knowledge(s);
     let claim = submission::claim_bytes(s);
     let guess = submission::term_at(s, claim.guess);
-    let v = Node {
+    Node {
         head: ATOM + guess.kind,
         left: name,
         right: 0,
-    };
-    m.with_value(v, 0, Found::Nothing)
+    }
 }
 
-// The state after all instructions.
-fn executed(s: &[u8], name: u16, program: &[u8]) -> Machine
-    requires { ⌜ SubmissionRead (now s) ⌝ }
-    requires { ⌜ badProgram (now s) (now program) ≡ false ⌝ }
-    ensures { λ r. ⌜ Running (now (s .entry)) name (now (program .entry)) (byteAt (now (program .entry)) 0) r ⌝ }
+// ---- Stale names.
+
+// Marks the parts of node t, keys among them, where it is marked.
+fn mark_parts<'a>(
+    heads: &'a [u8; 384],
+    lefts: &'a [u16; 384],
+    rights: &'a [u16; 384],
+    marks: &mut [u8; 256],
+    t: u8,
+)
+    requires { ⌜ Below 256 (recordsIn (now heads) (now lefts) (now rights) t) ⌝ }
+    ensures { λ _. ⌜ now (marks .exit) ≡ treated (recordsIn (now (heads .entry)) (now (lefts .entry)) (now (rights .entry))) t (now (marks .entry)) ⌝ }
 {
-    let mut m = initial(s, name);
-    let n = base::byte(program, 0);
-    for i in 0..n {
-        m = m.step(program::instruction_at(program, i));
+    let i = base::wide(t);
+    if marks[i] != 1 {
+        return;
     }
-    m
+    if ATOM <= heads[i] {
+        return;
+    }
+    let x = index(lefts[i]);
+    let y = index(rights[i]);
+    marks[x] = 1;
+    marks[y] = 1;
+}
+
+// 1 at each term that is part of the knowledge. It goes from the last term down: parts are earlier terms, so one look at each is enough,
+// however many messages share it.
+fn known_parts<'a>(
+    s: &[u8],
+    heads: &'a [u8; 384],
+    lefts: &'a [u16; 384],
+    rights: &'a [u16; 384],
+) -> [u8; 256]
+    requires { ⌜ TableRead (now s) ⌝ }
+    requires { ⌜ TermNodes (now s) (now heads) (now lefts) (now rights) ⌝ }
+    ensures { λ r. ⌜ PartMarks (now (s .entry)) r ⌝ }
+{
+    let known = deduction::knowledge_marks(s);
+    let mut marks = known.state;
+    let mut i = submission::terms(s);
+    while 0 < i {
+        i -= 1;
+        mark_parts(heads, lefts, rights, &mut marks, i);
+    }
+    marks
+}
+
+fn is_marked(marks: &[u8; 256], found: Found) -> bool
+    requires { ⌜ length (now marks) ≡ 256 ⌝ }
+    ensures { λ r. ⌜ r ≡ isMarked (now (marks .entry)) found ⌝ }
+{
+    let Found::At(k) = found else {
+        return false;
+    };
+    let i = index(k);
+    if i < 256 {
+        return marks[i] == 1;
+    }
+    false
+}
+
+// Whether one of these terms is part of the knowledge.
+fn is_known_part<'a>(
+    s: &[u8],
+    heads: &'a [u8; 384],
+    lefts: &'a [u16; 384],
+    rights: &'a [u16; 384],
+    found: Found,
+    other: Found,
+) -> bool
+    requires { ⌜ TableRead (now s) ⌝ }
+    requires { ⌜ TermNodes (now s) (now heads) (now lefts) (now rights) ⌝ }
+    ensures { λ r. ⌜ SomeMarked (now (s .entry)) found other r ⌝ }
+{
+    let marks = known_parts(s, heads, lefts, rights);
+    if is_marked(&marks, found) {
+        return true;
+    }
+    is_marked(&marks, other)
+}
+
+fn inverse_head(head: u8) -> u8
+    ensures { λ r. ⌜ r ≡ inverseHead head ⌝ }
+{
+    if head == PUBLIC {
+        return PRIVATE;
+    }
+    if head == PRIVATE {
+        return PUBLIC;
+    }
+    head
+}
+
+// The number of the inverse of v, whose own number is `found`; a node that is no key is its own inverse here.
+fn find_inverse<'a>(
+    heads: &'a [u8; 384],
+    lefts: &'a [u16; 384],
+    rights: &'a [u16; 384],
+    v: Node,
+    found: Found,
+    n: u16,
+) -> Found
+    requires { ⌜ n ≤ 384 ⌝ }
+    requires { ⌜ found ≡ numberIn (now heads) (now lefts) (now rights) n v ⌝ }
+    ensures { λ r. ⌜ r ≡ numberIn (now (heads .entry)) (now (lefts .entry)) (now (rights .entry)) n (inverseNode v) ⌝ }
+{
+    let head = inverse_head(v.head);
+    if head == v.head {
+        return found;
+    }
+    let inverse = Node {
+        head,
+        left: v.left,
+        right: v.right,
+    };
+    find(heads, lefts, rights, inverse, 0, n)
+}
+
+fn is_at(found: Found) -> bool
+    ensures { λ r. ⌜ r ≡ isAt found ⌝ }
+{
+    match found {
+        Found::At(_) => true,
+        Found::Nothing => false,
+    }
+}
+
+// Whether the guess's atom v, which is term `found` of n, or its inverse is part of the knowledge. The guess's own name is never stale. What is
+// not listed is part of nothing.
+fn is_stale<'a>(
+    s: &[u8],
+    heads: &'a [u8; 384],
+    lefts: &'a [u16; 384],
+    rights: &'a [u16; 384],
+    v: Node,
+    found: Found,
+    n: u16,
+) -> bool
+    requires { ⌜ SubmissionRead (now s) ⌝ }
+    requires { ⌜ TermNodes (now s) (now heads) (now lefts) (now rights) ⌝ }
+    requires { ⌜ v ≡ guessNode (now s) (v .left) ⌝ }
+    requires { ⌜ found ≡ numberIn (now heads) (now lefts) (now rights) n v ⌝ }
+    requires { ⌜ n ≡ termCount (now s) ⌝ }
+    ensures { λ r. ⌜ r ≡ isStaleName (now (s .entry)) (v .left) ⌝ }
+{
+    let claim = submission::claim_bytes(s);
+    let guess = submission::term_at(s, claim.guess);
+    if submission::name_of(guess) == v.left {
+        return false;
+    }
+    let other = find_inverse(heads, lefts, rights, v, found, n);
+    if is_at(found) {
+        return is_known_part(s, heads, lefts, rights, found, other);
+    }
+    if is_at(other) {
+        return is_known_part(s, heads, lefts, rights, found, other);
+    }
+    false
+}
+
+// ---- The signal.
+
+// The number of the guess's node: that of the term that it is, or the next one, n.
+fn number_of(found: Found, n: u16) -> u16
+    ensures { λ r. ⌜ r ≡ numberOf found n ⌝ }
+{
+    match found {
+        Found::At(k) => k,
+        Found::Nothing => n,
+    }
+}
+
+// How many nodes there are with it.
+fn nodes_with(found: Found, n: u16) -> u16
+    requires { ⌜ n < 384 ⌝ }
+    ensures { λ r. ⌜ r ≡ nodesWith found n ⌝ }
+{
+    match found {
+        Found::At(_) => n,
+        Found::Nothing => n + 1,
+    }
 }
 
 fn bit(b: bool) -> u16
@@ -448,7 +608,52 @@ fn signal(program: &[u8], relation: Relation, m: Machine) -> u16
     }
 }
 
-// The signal of a program on a submission, with a name for the guess; or the refusal of the first of checks 1 to 5 and 13 that fails.
+// The signal of the program that starts from this state, which is that of the submission with the name for the guess.
+fn signalled(s: &[u8], name: u16, start: Machine, program: &[u8], relation: Relation) -> u16
+    requires { ⌜ SubmissionRead (now s) ⌝ }
+    requires { ⌜ Started (now s) name start ⌝ }
+    requires { ⌜ badProgram (now s) (now program) ≡ false ⌝ }
+    requires { ⌜ relationOf (testAt (now program) .rule) ≡ some (relationIs relation) ⌝ }
+    ensures { λ r. ⌜ r ≡ signalOf (now (s .entry)) name (now (program .entry)) ⌝ }
+{
+    let mut m = start;
+    let n = base::byte(program, 0);
+    for i in 0..n {
+        m = m.step(program::instruction_at(program, i));
+    }
+    signal(program, relation, m)
+}
+
+// Check 15, and then the signal.
+fn tried(s: &[u8], name: u16, program: &[u8], relation: Relation) -> Answer
+    requires { ⌜ SubmissionRead (now s) ⌝ }
+    requires { ⌜ badProgram (now s) (now program) ≡ false ⌝ }
+    requires { ⌜ relationOf (testAt (now program) .rule) ≡ some (relationIs relation) ⌝ }
+    ensures { λ r. ⌜ answerOf r ≡ answered (failsIf (isStaleName (now (s .entry)) name) 15 0) (done (signalOf (now (s .entry)) name (now (program .entry)))) ⌝ }
+{
+    let mut m = with_knowledge(s);
+    let n = m.nodes;
+    let v = guess_node(s, name);
+    let found = find(&m.heads, &m.lefts, &m.rights, v, 0, n);
+    if is_stale(s, &m.heads, &m.lefts, &m.rights, v, found, n) {
+        return Answer::Refused {
+            number: 15,
+            place: 0,
+        };
+    }
+    // The place after the terms is free: where the guess is one of them, what is put there is no node.
+    let k = index(n);
+    m.heads[k] = v.head;
+    m.lefts[k] = v.left;
+    m.rights[k] = v.right;
+    m.nodes = nodes_with(found, n);
+    let used = m.used;
+    m.registers[index(used)] = number_of(found, n);
+    m.used = used + 1;
+    Answer::Done(signalled(s, name, m, program, relation))
+}
+
+// The signal of a program on a submission, with a name for the guess; or the refusal of the first of checks 1 to 5, 13 and 15 that fails.
 pub fn run(s: &[u8], name: u16, program: &[u8]) -> Answer
     ensures { λ r. ⌜ answerOf r ≡ runAnswer (now (s .entry)) name (now (program .entry)) ⌝ }
 {
@@ -463,6 +668,5 @@ pub fn run(s: &[u8], name: u16, program: &[u8]) -> Answer
             place: 0,
         };
     };
-    let m = executed(s, name, program);
-    Answer::Done(signal(program, relation, m))
+    tried(s, name, program, relation)
 }

@@ -16,10 +16,11 @@ use Rattle.submission.specs.declared.Operand.the-variants.{VerifyingResu
 use Rattle.submission.specs.declared.Row.{Row as RowRead}
 use Rattle.submission.specs.declared.Reading.{Reading}
 use Rattle.submission.specs.declared.Reading.the-variants.{Good, Refused}
-use Rattle.submission.specs.{Check.Way, Check.another-step, Check.at-start, Check.inverse-key, Check.wayOf, Check.Range, Check.step-number, Check.term-number, Check.zero-only, Check.Operand, Check.verifying-result, Check.companion-result, Check.lowest-conclusion, Check.lowest-companion, Check.Row, Record.start, Record.count, Record.terms, Record.kindAt, Record.xAt, Record.yAt, Record.guess, Record.verifying, Record.wayAt, Record.companion}
+use Rattle.submission.specs.{Check.Way, Check.another-step, Check.at-start, Check.inverse-key, Check.wayOf, Check.Range, Check.step-number, Check.term-number, Check.zero-only, Check.Operand, Check.verifying-result, Check.companion-result, Check.lowest-conclusion, Check.lowest-companion, Check.Row, Record.start, Record.count, Record.terms, Record.kindAt, Record.xAt, Record.yAt, Record.guess, Record.verifying, Record.wayAt, Record.companion, Record.InKnowledge, Computed.checks1to5}
+use Rattle.term.specs.Term as words
 use Rattle.term.specs.Code.{relationIs, isUnary}
 use Rattle.term.specs.Number.{shapeOf}
-use Rattle.base.specs.Computed.{Check, passes, fails}
+use Rattle.base.specs.{Words.Bytes, Computed.Check, Computed.passes, Computed.fails}
 
 -- r is where body i starts; a body has at most 255 records of at most 4 bytes
 pub record Starts (s : List ℕ) (i r : ℕ) : Type 0 where
@@ -31,6 +32,15 @@ pub record IsTerm (s : List ℕ) (i : ℕ) (t : Term) : Type 0 where
   pub kind : t .kind ≡ kindAt s i
   pub x : t .x ≡ xAt s i
   pub y : t .y ≡ yAt s i
+
+-- bytes that passed checks 1 to 5
+pub record SubmissionRead (s : List ℕ) : Type 0 where
+  pub bytes : Bytes s
+  pub passed : checks1to5 s ≡ passes
+
+-- x is part of a message in the knowledge
+abbrev pub KnownPart : List ℕ → words.Term → Type 0
+KnownPart s x = (t : words.Term) × InKnowledge s t × words.Part x t
 
 -- ---- the claim, and the table of ways
 abbrev pub wayIs : WayRead → Way

@@ -1,4 +1,4 @@
--- Checks 1 to 5 and tests of term numbers; what they say is proved: `tells-1-to-5`, `inverse-iff`, `says-fresh`.
+-- Checks 1 to 5 and tests of terms; what they say is proved: `tells-1-to-5`, `inverse-iff`, `says-stale`.
 use Rattle.base.specs.{Words.Bool, Words.true, Words.false, Words._&&_, Words._||_, Words.not, Words.cond, Words.List, Words.Option, Words.none, Words.some, Words.ℕ, Words._+_, Words._*_, Words.eqb, Words.ltb, Words.length, Words.first, Words.byte, Computed.any, Computed.Check, Computed.failsAt, Computed.failsIf, Computed.andThen}
 use Rattle.term.specs.{Term.second, Term.unary, Term.Shape, Term.atomic, Term.compound, Term.Term, Term.inverse, Number.shapeOf, Computed.takes, Computed.isAtomic, Computed.inverseKinds, Computed.isPart}
 use Rattle.submission.specs.{Record.letter, Record.count, Record.start, Record.least, Record.most, Record.terms, Record.entries, Record.steps, Record.kindAt, Record.xAt, Record.yAt, Record.entryAt, Record.guess, Record.verifying, Record.wayAt, Record.companion, Record.term, Check.Way, Check.wayOf, Check.Range, Check.step-number, Check.term-number, Check.zero-only, Check.row}
@@ -70,6 +70,6 @@ areInverse s i j = inverseKinds (kindAt s i) (kindAt s j) && (eqb (xAt s i) (xAt
 unfoldable pub isKnownPart : List ℕ → Term → Bool
 isKnownPart s x = any (λ r. isPart x (term s (entryAt s r))) (entries s)
 
--- neither w nor its inverse is
-unfoldable pub isFresh : List ℕ → Term → Bool
-isFresh s w = not (isKnownPart s w) && not (isKnownPart s (inverse w))
+-- w or its inverse is
+unfoldable pub isStale : List ℕ → Term → Bool
+isStale s w = isKnownPart s w || isKnownPart s (inverse w)

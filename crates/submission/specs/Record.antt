@@ -1,6 +1,6 @@
 -- A submission's contents and records: document 01, 'The submission'. "Records count from 0."
 use Rattle.base.specs.{Words._≡_, Words.cond, Words.List, Words.[], Words._∷_, Words.Option, Words.none, Words.some, Words.ℕ, Words.zero, Words.suc, Words._+_, Words._*_, Words._<_, Words.getD, Words.byte}
-use Rattle.term.specs.{Number.hasOne, Term.plain, Term.unary, Term.make, Term.Shape, Term.atomic, Term.compound, Term.Term, Number.shapeOf, Term.Rec, Term.leaf, Term.branch, Term.decoded, Term.void, Term.second}
+use Rattle.term.specs.{Number.hasOne, Term.plain, Term.unary, Term.make, Term.Shape, Term.atomic, Term.compound, Term.Term, Term.atom, Term.atomKind, Number.shapeOf, Term.Rec, Term.leaf, Term.branch, Term.decoded, Term.void, Term.second}
 
 -- "four entries of 4 bytes: a letter, a one-byte count, a two-byte start", 0 to 3; "T terms, K knowledge, D derivation, V claim"
 abbrev pub letter : ℕ → ℕ
@@ -102,3 +102,7 @@ term s n = getD (decoded (recordAt s) (terms s)) n void
 -- a message in the knowledge
 abbrev pub InKnowledge : List ℕ → Term → Type 0
 InKnowledge s t = (r : ℕ) × (r < entries s) × (t ≡ term s (entryAt s r))
+
+-- "the atom of the guess's kind with that name"
+unfoldable pub guessed : List ℕ → ℕ → Term
+guessed s name = atom (atomKind (shapeOf (kindAt s (guess s)))) name

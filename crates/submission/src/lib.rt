@@ -94,6 +94,15 @@ pub fn term_at(s: &[u8], i: u8) -> Term
     }
 }
 
+// The name of an atom's record.
+pub fn name_of(t: Term) -> u16
+    ensures { λ r. ⌜ r ≡ t .x * 256 + t .y ⌝ }
+{
+    let x = wide16(t.x);
+    let y = wide16(t.y);
+    x * 256 + y
+}
+
 // The claim's four bytes.
 pub struct ClaimBytes {
     pub guess: u8,

@@ -68,7 +68,7 @@ module _ (K : Term → Type 0) (D : Head → Term → Term → Term → Type 0) 
     inverse-atomic = let e = w-atom .2 in subst (λ z. Atomic (inverse z)) (sym e) (_, w-atom .1, refl)
 
     clean-fresh : {t v : Term} → Reach K t → v ≡ t → Part w v → ⊥
-    clean-fresh r e i = reach-fresh K w w-atom (is-fresh .apart) r (subst (Part w) e i)
+    clean-fresh r e i = reach-fresh K w w-atom (λ t k p. is-fresh (t, k, inl p)) r (subst (Part w) e i)
 
     -- a value is clean, or has w in it: it is tainted
     status : {t v : Term} → MayHold t v → (Reach K t × (v ≡ t)) ⊎ Part w v
@@ -78,7 +78,7 @@ module _ (K : Term → Type 0) (D : Head → Term → Term → Term → Type 0) 
 
     -- the inverse of the key that is tried is in no value
     no-inverse : isKey w → {t v : Term} → MayHold t v → Part (inverse w) v → ⊥
-    no-inverse k (clean r e) i = reach-fresh K (inverse w) inverse-atomic (is-fresh .inverseApart) r (subst (Part (inverse w)) e i)
+    no-inverse k (clean r e) i = reach-fresh K (inverse w) inverse-atomic (λ t k p. is-fresh (t, k, inr p)) r (subst (Part (inverse w)) e i)
     no-inverse k (tried e f) i = key-apart w k (part-atomic (inverse w) w w-atom (subst (Part (inverse w)) f i))
     no-inverse k (formed h p q a b d x y j e) i =
         ⊎-elim (no-inverse k x) (no-inverse k y) (part-node (inverse w) h a b inverse-atomic (subst (Part (inverse w)) e i))
@@ -135,7 +135,7 @@ module _ (K : Term → Type 0) (D : Head → Term → Term → Term → Type 0) 
     encrypted-fresh : (c : Cipher) (b : Term) {p v r k : Term} → v ≡ node (make (encryption c)) r k → Match c k b → Part w v ⊎ Part w b → Reach K p → v ≡ p → ⊥
     encrypted-fresh c b f m (inl i) x e = clean-fresh x e i
     encrypted-fresh c b {p} {v = v} {r} {k} f m (inr i) x e =
-        ⊎-elim (out w w-atom (is-fresh .apart)) (out (inverse w) inverse-atomic (is-fresh .inverseApart)) (match-part c w k b m i)
+        ⊎-elim (out w w-atom (λ t k p. is-fresh (t, k, inl p))) (out (inverse w) inverse-atomic (λ t k p. is-fresh (t, k, inr p))) (match-part c w k b m i)
       where
         out : (z : Term) → Atomic z → ((t : Term) → K t → Part z t → ⊥) → Part z k → ⊥
         out z l o j = reach-fresh K z l o x (subst (Part z) (sym f ∙ e) (inr (inr j)))
@@ -234,7 +234,7 @@ module _ (K : Term → Type 0) (D : Head → Term → Term → Term → Type 0) 
 
       -- way b: a value at the start is another, that of the knowledge and the tried one
       pub at-start-differs : (z : Term) → K z ⊎ (z ≡ w) → op h v u ≡ z → ⊥
-      at-start-differs z (inl k) e = is-fresh .apart z k (subst (Part w) (sym verified ∙ e) (inr taint))
+      at-start-differs z (inl k) e = is-fresh (z, k, inl (subst (Part w) (sym verified ∙ e) (inr taint)))
       at-start-differs z (inr k) e = atom-not-node w-atom (sym k ∙ sym e ∙ verified)
 
       -- way c: the value is no key

@@ -1,9 +1,9 @@
 pub mod Deducibility
-pub mod FreshLaws
 pub mod Guess
 pub mod Kind
 pub mod Marks
 pub mod Numbered
+pub mod PartLaws
 pub mod Reach
 pub mod Reduce
 pub mod Rule

@@ -97,6 +97,12 @@ shape (node (make f) a b) = some (compound f)
 shape (node (part s) a b) = none
 shape (node (decrypt c) a b) = none
 
+-- the kind of an atom of this shape; what is no atom reads as a plain one
+abbrev pub atomKind : Option Shape → Kind
+atomKind none = plain
+atomKind (some (atomic κ)) = κ
+atomKind (some (compound f)) = plain
+
 -- "y a plain atom", "y a key of kind 2 or 3". "Any plain atom may be a symmetric key (house rule)." A2: "A hash may be the key of kind 5."
 abbrev pub isKeyFor : Cipher → Option Shape → Bool
 isKeyFor c none = false
@@ -116,10 +122,13 @@ abbrev pub Part : Term → Term → Type 0
 Part x (atom κ n) = x ≡ atom κ n
 Part x (node h a b) = (x ≡ node h a b) ⊎ (Part x a ⊎ Part x b)
 
--- Freshness, which demand 3 asks of a wrong guess: neither w nor its inverse is part of a message in K; a plain atom is its own inverse here
-pub record Fresh (K : Term → Type 0) (w : Term) : Type 0 where
-  pub apart : (t : Term) → K t → Part w t → ⊥
-  pub inverseApart : (t : Term) → K t → Part (inverse w) t → ⊥
+-- A3: w is stale: it "or that atom's inverse, is part of" a message in K; a plain atom is its own inverse here
+abbrev pub Stale : (Term → Type 0) → Term → Type 0
+Stale K w = (t : Term) × K t × (Part w t ⊎ Part (inverse w) t)
+
+-- Freshness, which demand 3 asks of a wrong guess: neither w nor its inverse is part of a message in K
+abbrev pub Fresh : (Term → Type 0) → Term → Type 0
+Fresh K w = Stale K w → ⊥
 
 -- What a test asks of two terms: "`=` signals 1 for equal terms, `i` when the first is a key and the second its inverse."
 pub data Relation : Type 0 where

@@ -11,12 +11,12 @@ use std::process::{Command, Stdio};
 use std::time::{Duration, Instant};
 
 use checker::raw;
-use checker_tests::bodies::Bodies;
+use checker_tests::bodies::{self, Bodies};
 use checker_tests::examples;
 use checker_tests::generate::shapes::{self, Nesting, Order, Secrets};
-use checker_tests::generate::{repeated, Form};
-use checker_tests::reference::{self, code};
-use checker_tests::tables::{Body, Rule, LONGEST_PROGRAM, LONGEST_SUBMISSION};
+use checker_tests::generate::{padded, repeated, shortest, Form, UNLISTED};
+use checker_tests::reference::{self, code, Guesses};
+use checker_tests::tables::{Body, Rule, Test, LONGEST_PROGRAM, LONGEST_SUBMISSION};
 
 /// The shortest time to measure, and how many measurements the fastest is taken of. Short ones end
 /// before another process gets the processor.
@@ -41,6 +41,10 @@ fn main() {
     let doubling = shapes::doubling_known(Body::Terms.most());
     measure_repeated("128 times pair r r, 250 terms", Rule::Pair, &doubling);
     measure_repeated("128 times hash r, 250 terms", Rule::Hash, &doubling);
+    measure_other_names("M1", &examples::submission("M1"));
+    measure_other_names("typical", &examples::submission(TYPICAL));
+    measure_other_names("largest accepted", &shapes::largest().submission());
+    measure_search();
     measure_write_again("M1", &examples::submission("M1"));
     measure_write_again("typical", &examples::submission(TYPICAL));
     measure_write_again("largest", &shapes::largest().submission());
@@ -110,6 +114,10 @@ fn measure_deducible(title: &str, submission: &[u8]) {
 /// Runs the program with the right guess.
 fn measure_run(title: &str, submission: &[u8], program: &[u8]) {
     let (_, name) = reference::guess(submission).expect("a submission that can be run");
+    measure_name(title, submission, name, program);
+}
+
+fn measure_name(title: &str, submission: &[u8], name: u16, program: &[u8]) {
     let checker = nanoseconds(|| raw::run(black_box(submission), name, program));
     let reference = nanoseconds(|| code(reference::run(black_box(submission), name, program)));
     print_row("run", title, submission.len() + program.len(), checker, reference);
@@ -125,6 +133,36 @@ fn measure_repeated(title: &str, rule: Rule, bodies: &Bodies) {
 fn measure_own_page(title: &str, submission: &[u8]) {
     let program = reference::program(submission).expect("an accepted submission");
     measure_run(&format!("{title}, its own page"), submission, &program);
+}
+
+/// Runs it with a wrong guess that is not listed, and with a stale name.
+fn measure_other_names(title: &str, submission: &[u8]) {
+    let program = reference::program(submission).expect("an accepted submission");
+    for (word, name) in [("fresh", UNLISTED), ("stale", stale_name(submission))] {
+        let title = format!("{title}, its own page, {word} name");
+        measure_name(&title, submission, name, &program);
+    }
+}
+
+/// The first stale name of a listed atom.
+fn stale_name(submission: &[u8]) -> u16 {
+    let guesses = Guesses::of(submission).expect("a submission that can be run");
+    let mut names = bodies(submission).terms.into_iter().map(bodies::name);
+    names.find(|&name| name != guesses.own() && guesses.is_stale(name)).expect("a stale name")
+}
+
+/// Looks for names in a known pair that holds the same pair twice, and so on down to an atom: one
+/// that is not listed, that of a listed atom which is part of nothing, and that of the atom.
+fn measure_search() {
+    let most = Body::Terms.most();
+    let bodies = padded(&shapes::doubling_known(most - 1), most, 0, 0);
+    let guess = bodies.knowledge.len() as u8;
+    let program = shortest(Test::Equal, [guess, guess]);
+    let listed = bodies::name(bodies.terms[most - 1]);
+    for (word, name) in [("unlisted", UNLISTED), ("listed", listed), ("stale", shapes::FRESH)] {
+        let title = format!("doubling pairs known, short program, {word} name");
+        measure_name(&title, &bodies.submission(), name, &program);
+    }
 }
 
 fn measure_write(title: &str, form: &Form) {

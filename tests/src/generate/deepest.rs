@@ -1,11 +1,12 @@
 //! The inputs on which the calls may need the most stack: terms nested as deep as the limit on terms
 //! allows, the longest derivations, and the longest programs.
 
-use super::program::repeated;
+use super::names::Names;
+use super::program::{repeated, shortest};
 use super::shapes::{self, Nesting};
-use super::{right_name, Form, Input, UNLISTED};
+use super::{Form, Input, UNLISTED};
 use crate::bodies::Bodies;
-use crate::tables::{Body, Rule, LONGEST_PROGRAM, LONGEST_SUBMISSION};
+use crate::tables::{Body, Rule, Test, LONGEST_PROGRAM, LONGEST_SUBMISSION};
 
 /// The inputs, each with a title.
 pub fn deepest() -> Vec<(String, Input)> {
@@ -30,17 +31,28 @@ pub fn deepest() -> Vec<(String, Input)> {
 /// Asks for the last three terms, of which one is the deepest, for the first and for one too many.
 fn input(bodies: &Bodies) -> Input {
     let submission = bodies.submission();
-    let right = right_name(&submission);
+    let names = [Names::of(&submission).own_and_parts(), vec![UNLISTED]].concat();
     let terms = bodies.terms.len() as u8;
     Input {
         page: vec![0xA5; LONGEST_PROGRAM],
         asked: vec![terms - 3, terms - 2, terms - 1, 0, terms],
-        runs: programs(bodies).into_iter().map(|program| (right, program)).collect(),
-        right,
-        names: vec![UNLISTED],
+        runs: runs(bodies, &names),
+        names,
         forms: vec![Form::new(bodies.bytes(), LONGEST_SUBMISSION)],
         submission,
     }
+}
+
+/// Long programs with the guess's own name, which comes first, and with a fresh one; and a short
+/// program with each of the names.
+fn runs(bodies: &Bodies, names: &[u16]) -> Vec<(u16, Vec<u8>)> {
+    let guess = bodies.knowledge.len() as u8;
+    let short = shortest(Test::Equal, [guess, guess]);
+    let mut runs: Vec<_> = names.iter().map(|&name| (name, short.clone())).collect();
+    for program in programs(bodies) {
+        runs.extend([names[0], UNLISTED].map(|name| (name, program.clone())));
+    }
+    runs
 }
 
 /// Each rule over its own last result: with that result as its second operand too, and with the

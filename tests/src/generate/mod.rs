@@ -1,10 +1,11 @@
-//! Submissions, pages, programs and forms to compare the checker with the reference on. One seed
-//! gives one sequence of inputs.
+//! Submissions, pages, names, programs and forms to compare the checker with the reference on. One
+//! seed gives one sequence of inputs.
 
 mod damage;
 mod deepest;
 mod form;
 mod limits;
+mod names;
 mod program;
 mod protocol;
 mod random;
@@ -15,6 +16,7 @@ mod table;
 use crate::bodies::{self, Bodies};
 use crate::reference::{self, contents};
 use crate::tables::{program_length, Body, LONGEST_PROGRAM};
+use names::Names;
 use program::Registers;
 use protocol::{protocol, Size};
 use random::Random;
@@ -23,7 +25,7 @@ use shapes::{Nesting, Order, Secrets};
 pub use deepest::deepest;
 pub use form::Form;
 pub use limits::padded;
-pub use program::repeated;
+pub use program::{repeated, shortest};
 
 /// What one round of the comparison uses.
 pub struct Input {
@@ -32,11 +34,10 @@ pub struct Input {
     pub page: Vec<u8>,
     /// Term numbers to ask for.
     pub asked: Vec<u8>,
-    /// Names and programs to run.
+    /// Names and programs to run: among others, each of the names below with a short program.
     pub runs: Vec<(u16, Vec<u8>)>,
-    /// The name of the submission's own guess, 0 where it has none.
-    pub right: u16,
-    /// Names that may be those of wrong guesses.
+    /// Names to run the program on the page with: first that of the submission's own guess, 0 where
+    /// it has none; then every stale one, and others.
     pub names: Vec<u16>,
     /// What to write: first the submission's own bodies, where it passes checks 1 and 2, on a page
     /// that is long enough.
@@ -68,16 +69,15 @@ impl Source {
 
     /// What to try with this submission.
     pub fn input(&mut self, submission: Vec<u8>) -> Input {
-        let page = self.page(&submission);
-        let right = right_name(&submission);
+        let names = Names::of(&submission);
+        let tried = names.tried(&mut self.random);
         Input {
+            page: self.page(&submission),
             asked: (0..4).map(|_| self.asked(&submission)).collect(),
-            runs: self.runs(&submission, right),
-            names: (0..4).map(|_| self.name(right)).collect(),
+            runs: self.runs(&submission, &names, &tried),
+            names: tried,
             forms: self.forms(&submission),
-            right,
             submission,
-            page,
         }
     }
 
@@ -188,16 +188,19 @@ impl Source {
         }
     }
 
-    /// Runs with the submission's own program, changed ones, and others.
-    fn runs(&mut self, submission: &[u8], right: u16) -> Vec<(u16, Vec<u8>)> {
-        let bodies = Bodies::read(submission).unwrap_or_default();
-        let valid = program::valid(&mut self.random, &Registers::of(&bodies));
+    /// Runs with the submission's own program, changed ones and others, each with one of its names;
+    /// and with a short program, with each of the names that are tried.
+    fn runs(&mut self, submission: &[u8], names: &Names, tried: &[u16]) -> Vec<(u16, Vec<u8>)> {
+        let registers = Registers::of(&Bodies::read(submission).unwrap_or_default());
+        let valid = program::valid(&mut self.random, &registers);
         let mut programs = vec![program::damaged(&mut self.random, &valid), valid];
         if let Ok(own) = reference::program(submission) {
             programs.push(program::damaged(&mut self.random, &own));
             programs.push(own);
         }
-        programs.into_iter().map(|program| (self.name(right), program)).collect()
+        let short = program::short(&mut self.random, &registers);
+        let named = programs.into_iter().map(|program| (names.one(&mut self.random), program));
+        named.chain(tried.iter().map(|&name| (name, short.clone()))).collect()
     }
 
     /// The submission's own bodies, as they are and changed; changed ones of a kept protocol where it
@@ -213,20 +216,6 @@ impl Source {
             }
         }
     }
-
-    /// The guess's own name, that of a listed atom, or any.
-    fn name(&mut self, right: u16) -> u16 {
-        match self.random.weighted(&[30, 40, 10, 20]) {
-            0 => right,
-            1 => right.wrapping_add(self.random.below(8) as u16),
-            2 => self.random.pick(&[0, 1, u16::MAX]),
-            _ => self.random.number() as u16,
-        }
-    }
-}
-
-fn right_name(submission: &[u8]) -> u16 {
-    reference::guess(submission).map_or(0, |(_, name)| name)
 }
 
 /// A new protocol of some size, small ones more often.

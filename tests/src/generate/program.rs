@@ -25,6 +25,11 @@ impl Registers {
         }
         Registers { count: held.len(), inverse }
     }
+
+    /// The register of the guess, which is the last of them.
+    fn guess(&self) -> u8 {
+        (self.count - 1) as u8
+    }
 }
 
 /// A program that run takes: each rule occurs, often two that cancel or one twice, and often the
@@ -41,6 +46,23 @@ pub fn valid(random: &mut Random, registers: &Registers) -> Vec<u8> {
     }
     let test = writer.test();
     [&[count as u8], writer.instructions.as_flattened(), &test].concat()
+}
+
+/// A program without instructions that tests the guess's register beside any.
+pub fn short(random: &mut Random, registers: &Registers) -> Vec<u8> {
+    let other = random.below(registers.count) as u8;
+    shortest(random.pick(&Test::ALL), [registers.guess(), other])
+}
+
+/// No instructions, and the test.
+pub fn shortest(test: Test, registers: [u8; 2]) -> Vec<u8> {
+    [&[0][..], &tested(test, registers)].concat()
+}
+
+/// The test of as many of the registers as it names.
+fn tested(test: Test, registers: [u8; 2]) -> [u8; INSTRUCTION_SIZE] {
+    let [first, second] = padded(&registers[..test.registers()]);
+    [test.letter(), first, second]
 }
 
 /// The longest program, in which a rule goes over its own last result, from the guess's register on.
@@ -178,9 +200,7 @@ impl Writer<'_> {
             5 if !self.registers.inverse.is_empty() => self.random.pick(&self.registers.inverse),
             _ => [self.register(), self.register()],
         };
-        let test = self.random.pick(&Test::ALL);
-        let [first, second] = padded(&registers[..test.registers()]);
-        [test.letter(), first, second]
+        tested(self.random.pick(&Test::ALL), registers)
     }
 
     /// Writes the rule over as many of the registers as it uses. Answers the result's register.

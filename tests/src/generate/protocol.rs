@@ -40,7 +40,10 @@ fn one_protocol(random: &mut Random, size: &Size, way: Way) -> Bodies {
         compound(random, &mut table, guess);
     }
     let telling = telling_messages(random, &mut table, guess, way);
-    let knowledge = overheard(random, &table, guess, &telling);
+    let mut knowledge = overheard(random, &table, guess, &telling);
+    if random.chance(5) {
+        forget(&table, guess, &mut knowledge);
+    }
     let derivation = walk(random, &table, &knowledge, guess, size.steps);
     let mut bodies = Bodies { terms: table.records.clone(), knowledge, derivation, claim: [0; 4] };
     bodies.claim = claim(random, &bodies, &table, guess, way);
@@ -54,8 +57,8 @@ fn atoms(random: &mut Random, table: &mut Table) -> u8 {
         let name = base.wrapping_add(random.below(6) as u16);
         table.atom(Kind::Plain, name);
     }
-    for _ in 0..random.below(6) {
-        let name = base.wrapping_add(random.below(3) as u16);
+    for _ in 0..random.below(9) {
+        let name = base.wrapping_add(random.below(4) as u16);
         let kind = random.pick(&Kind::atoms());
         table.atom(kind, name);
     }
@@ -173,6 +176,14 @@ fn overheard(random: &mut Random, table: &Table, guess: u8, telling: &[u8]) -> V
     random.shuffle(&mut knowledge);
     knowledge.truncate(Body::Knowledge.most());
     knowledge
+}
+
+/// Takes the messages out of the knowledge that the guess or its inverse is part of.
+fn forget(table: &Table, guess: u8, knowledge: &mut Vec<u8>) {
+    for atom in [Some(guess), table.inverse(guess)].into_iter().flatten() {
+        let having = table.having(atom);
+        knowledge.retain(|&message| !having[usize::from(message)]);
+    }
 }
 
 /// A founded derivation: steps taken at random among the possible ones.

@@ -8,7 +8,7 @@ use crate::bodies::Bodies;
 use crate::tables::{Body, Kind, Rule, Way};
 
 /// The first name of the atoms that a shape adds.
-const FRESH: u16 = 100;
+pub const FRESH: u16 = 100;
 
 /// A table, and what is known over it, around one verifying step: n and enc(n, g) are known, and
 /// dec with the guess g gives n.

@@ -60,15 +60,33 @@ impl Table {
         Some((rule, &bytes[..rule.operands()]))
     }
 
+    /// The operands of the term with this number, none for an atom.
+    fn operands(&self, number: u8) -> &[u8] {
+        self.as_compound(number).map_or(&[], |(_, operands)| operands)
+    }
+
     /// For each term, whether the part is it, or one that it is made from.
     pub fn having(&self, part: u8) -> Vec<bool> {
         let mut having: Vec<bool> = Vec::new();
         for number in self.numbers() {
-            let operands = self.as_compound(number).map_or(&[][..], |(_, operands)| operands);
             let has = |&operand: &u8| having[usize::from(operand)];
-            having.push(number == part || operands.iter().any(has));
+            having.push(number == part || self.operands(number).iter().any(has));
         }
         having
+    }
+
+    /// For each term, whether it is one of the messages, or one that they are made from. In a damaged
+    /// table, operands may number later terms, or none.
+    pub fn parts_of(&self, messages: &[u8]) -> Vec<bool> {
+        let mut is_part = vec![false; self.records.len()];
+        let mut waiting = messages.to_vec();
+        while let Some(number) = waiting.pop() {
+            if is_part.get(usize::from(number)) == Some(&false) {
+                is_part[usize::from(number)] = true;
+                waiting.extend_from_slice(self.operands(number));
+            }
+        }
+        is_part
     }
 
     /// The listed number of a key's inverse.

@@ -6,13 +6,14 @@ pub mod contents;
 mod deduction;
 mod derivation;
 mod form;
+mod guesses;
 mod machine;
+mod parts;
 mod program;
 mod refusal;
 mod rule;
 mod submission;
 mod term;
-mod wrong_guess;
 
 use conditions::verified;
 use contents::BodyBytes;
@@ -24,9 +25,10 @@ use submission::Submission;
 
 use crate::tables::{Kind, Reason};
 
+pub use guesses::Guesses;
+pub use parts::Met;
 pub use refusal::{code, Checked, Refusal, REFUSAL};
 pub use submission::records;
-pub use wrong_guess::{guess, is_wrong_guess};
 
 /// Checks a submission. An acceptance carries the number of steps and writes the program on the
 /// page.
@@ -70,12 +72,17 @@ pub fn needed_keys(submission: &[u8], number: u8) -> Checked<Vec<Kind>> {
 
 /// The signal of the program when the guess has this name.
 pub fn run(submission: &[u8], name: u16, program: &[u8]) -> Checked<bool> {
-    let mut submission = Submission::read(submission)?;
-    let (kind, _) = submission.claim()?.atom();
-    let mut registers = submission.knowledge;
-    registers.push(submission.store.atom(kind, name));
-    let program = Program::read(program, registers.len())?;
-    Ok(machine::signal(&mut submission.store, registers, &program))
+    Guesses::of(submission)?.run(name, program)
+}
+
+/// The kind and name of the submission's own guess.
+pub fn guess(submission: &[u8]) -> Checked<(Kind, u16)> {
+    Guesses::of(submission).map(|guesses| (guesses.kind(), guesses.own()))
+}
+
+/// Whether the name is that of a wrong guess.
+pub fn is_wrong_guess(submission: &[u8], name: u16) -> Checked<bool> {
+    Guesses::of(submission).map(|guesses| guesses.is_wrong(name))
 }
 
 /// Writes the submission with these bodies on the page. An acceptance carries its length.

@@ -18,6 +18,7 @@ table! {
     ] }
     Run       { word: "run",       refusals: &[
         Reason::Contents, Reason::Count, Reason::Term, Reason::Knowledge, Reason::Claim, Reason::Program,
+        Reason::Stale,
     ] }
     Write     { word: "write",     refusals: &[Reason::Ragged, Reason::Count, Reason::Page] }
 }

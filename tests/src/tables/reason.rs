@@ -20,4 +20,5 @@ table! {
     NoSuchTerm  { number: 12, word: "no such term" }
     Program     { number: 13, word: "program" }
     Ragged      { number: 14, word: "ragged" }
+    Stale       { number: 15, word: "stale" }
 }

@@ -11,11 +11,11 @@ use Rattle.base.proofs.Map.{map-at}
 use Rattle.base.specs.Words.{first, firstFrom, grow}
 use Rattle.term.specs.Term.{decoded}
 use Rattle.term.specs.Reduce.{op, cancelled, parted, paired}
-use Rattle.term.specs.Computed.{match?, isKey?, ruleTakesApart}
+use Rattle.term.specs.Computed.{match?, isKey?, isPart, ruleTakesApart}
 use Rattle.term.specs.Number.{shapeOf, headOf, wordOf, hasOne}
 use Rattle.base.specs.Answer.{Answer, done, refused, pageAfter}
 use Rattle.submission.specs.Record.{startOf, secondAt}
-use Rattle.submission.specs.{Record.recordAt, Record.term, Computed.areInverse}
+use Rattle.submission.specs.{Record.recordAt, Record.term, Record.guessed, Computed.areInverse}
 use Rattle.submission.specs.Check.{wayOf}
 use Rattle.base.specs.Computed.{any}
 use Rattle.form.proofs.theory.Examples.{m1-bytes}
@@ -23,14 +23,15 @@ use Rattle.derivation.specs.Step.{registerTerm}
 use Rattle.derivation.specs.{Computed.badStep, Computed.unfounded, Computed.checkSteps}
 use Rattle.deduction.specs.Computed.{builtWithin, round, rounds, entryMarks, isDeducible, deducibleAnswer}
 use Rattle.program.specs.Program.{relationOf, programLength, instructionBytes, bytesOf, instructionAt}
-use Rattle.machine.specs.Run.{guessed, initial, executed, registers, signals, signal}
+use Rattle.submission.specs.Computed.{isKnownPart, isStale}
+use Rattle.machine.specs.Run.{initial, executed, registers, signals, signal}
 use Rattle.text.specs.Text.{digits, stepLine, testLine, stepLines, answerText}
 use Rattle.conditions.specs.Computed.{reachable, samePremises, undoesStep, undone, checks1to10, checkAnswer}
 use Rattle.conditions.specs.Calls.{lowest, instruction, program}
 use Rattle.checker.specs.Calls.{verdictText}
 use Rattle.submission.specs.Computed.{badContents, badTerm, badKnowledge, goodClaim, checks1to4, checks1to5}
 use Rattle.program.specs.Computed.{badInstruction, badTest, badProgram}
-use Rattle.machine.specs.Computed.{runAnswer}
+use Rattle.machine.specs.Computed.{isStaleName, runAnswer}
 
 -- what is seen of a submission
 pub record Outcome : Type 0 where
@@ -58,20 +59,20 @@ refusal bytes number place digits =
     unrun bytes (replicate 18 0xA5) (refused number place) (replicate 18 0xA5)
     ((0x72 ∷ 0x65 ∷ 0x66 ∷ 0x75 ∷ 0x73 ∷ 0x65 ∷ 0x64 ∷ 0x20 ∷ []) ++ digits ++ 0x0A ∷ [])
 
--- M1: knowledge n, enc(n, g); dec; way b: accepted
+-- M1: knowledge n, enc(n, g); dec; way b: accepted. A3: the name of n, 1, is stale.
 abbrev pub m1 : Example
 m1 =
     record {
       bytes = m1-bytes;
       page = replicate 9 0xA5;
-      names = 2 ∷ 3 ∷ [];
+      names = 2 ∷ 3 ∷ 1 ∷ [];
       wanted =
           record {
             answer = done 1;
             page = 0x01 ∷ 0x04 ∷ 0x01 ∷ 0x02 ∷ 0x3D ∷ 0x03 ∷ 0x00 ∷ 0xA5 ∷ 0xA5 ∷ [];
             text =
                 0x61 ∷ 0x63 ∷ 0x63 ∷ 0x65 ∷ 0x70 ∷ 0x74 ∷ 0x65 ∷ 0x64 ∷ 0x20 ∷ 0x31 ∷ 0x0A ∷ 0x72 ∷ 0x33 ∷ 0x20 ∷ 0x3D ∷ 0x20 ∷ 0x64 ∷ 0x65 ∷ 0x63 ∷ 0x20 ∷ 0x72 ∷ 0x31 ∷ 0x20 ∷ 0x72 ∷ 0x32 ∷ 0x0A ∷ 0x73 ∷ 0x69 ∷ 0x67 ∷ 0x6E ∷ 0x61 ∷ 0x6C ∷ 0x20 ∷ 0x72 ∷ 0x33 ∷ 0x20 ∷ 0x3D ∷ 0x20 ∷ 0x72 ∷ 0x30 ∷ 0x0A ∷ [];
-            signals = done 1 ∷ done 0 ∷ [];
+            signals = done 1 ∷ done 0 ∷ refused 15 0 ∷ [];
           };
     }
 
@@ -136,21 +137,21 @@ m7 =
     (0x54 ∷ 0x03 ∷ 0x00 ∷ 0x10 ∷ 0x4B ∷ 0x01 ∷ 0x00 ∷ 0x19 ∷ 0x44 ∷ 0x02 ∷ 0x00 ∷ 0x1A ∷ 0x56 ∷ 0x01 ∷ 0x00 ∷ 0x22 ∷ 0x01 ∷ 0x00 ∷ 0x01 ∷ 0x01 ∷ 0x00 ∷ 0x02 ∷ 0x04 ∷ 0x00 ∷ 0x01 ∷ 0x00 ∷ 0x00 ∷ 0x00 ∷ 0x01 ∷ 0x02 ∷ 0x01 ∷ 0x02 ∷ 0x00 ∷ 0x00 ∷ 0x01 ∷ 0x01 ∷ 0x62 ∷ 0x00 ∷ [])
     10 0 (0x31 ∷ 0x30 ∷ 0x20 ∷ 0x30 ∷ [])
 
--- M8: knowledge enc(k, g), j, with k public and j its inverse; dec; way c: accepted
+-- M8: knowledge enc(k, g), j, with k public and j its inverse; dec; way c: accepted. The name of the keys, 5, is not stale: no plain atom has it.
 abbrev pub m8 : Example
 m8 =
     record {
       bytes =
           0x54 ∷ 0x04 ∷ 0x00 ∷ 0x10 ∷ 0x4B ∷ 0x02 ∷ 0x00 ∷ 0x1C ∷ 0x44 ∷ 0x01 ∷ 0x00 ∷ 0x1E ∷ 0x56 ∷ 0x01 ∷ 0x00 ∷ 0x22 ∷ 0x02 ∷ 0x00 ∷ 0x05 ∷ 0x03 ∷ 0x00 ∷ 0x05 ∷ 0x01 ∷ 0x00 ∷ 0x02 ∷ 0x05 ∷ 0x00 ∷ 0x02 ∷ 0x03 ∷ 0x01 ∷ 0x04 ∷ 0x03 ∷ 0x02 ∷ 0x00 ∷ 0x02 ∷ 0x00 ∷ 0x63 ∷ 0x01 ∷ [];
       page = replicate 9 0xA5;
-      names = 2 ∷ 9 ∷ [];
+      names = 2 ∷ 9 ∷ 5 ∷ [];
       wanted =
           record {
             answer = done 1;
             page = 0x01 ∷ 0x04 ∷ 0x00 ∷ 0x02 ∷ 0x69 ∷ 0x03 ∷ 0x01 ∷ 0xA5 ∷ 0xA5 ∷ [];
             text =
                 0x61 ∷ 0x63 ∷ 0x63 ∷ 0x65 ∷ 0x70 ∷ 0x74 ∷ 0x65 ∷ 0x64 ∷ 0x20 ∷ 0x31 ∷ 0x0A ∷ 0x72 ∷ 0x33 ∷ 0x20 ∷ 0x3D ∷ 0x20 ∷ 0x64 ∷ 0x65 ∷ 0x63 ∷ 0x20 ∷ 0x72 ∷ 0x30 ∷ 0x20 ∷ 0x72 ∷ 0x32 ∷ 0x0A ∷ 0x73 ∷ 0x69 ∷ 0x67 ∷ 0x6E ∷ 0x61 ∷ 0x6C ∷ 0x20 ∷ 0x72 ∷ 0x33 ∷ 0x20 ∷ 0x68 ∷ 0x61 ∷ 0x73 ∷ 0x69 ∷ 0x6E ∷ 0x76 ∷ 0x20 ∷ 0x72 ∷ 0x31 ∷ 0x0A ∷ [];
-            signals = done 1 ∷ done 0 ∷ [];
+            signals = done 1 ∷ done 0 ∷ done 0 ∷ [];
           };
     }
 
@@ -344,7 +345,7 @@ want e = e .wanted
 
 -- the one computed fact
 pub table-right : map got table ≡ map want table
-unfolding first firstFrom any grow decoded op cancelled parted paired match? isKey? headOf wordOf hasOne ruleTakesApart startOf badContents shapeOf recordAt term areInverse wayOf badTerm badKnowledge goodClaim checks1to4 checks1to5 registerTerm secondAt badStep unfounded checkSteps builtWithin round rounds entryMarks isDeducible relationOf instructionBytes bytesOf instructionAt badInstruction badTest badProgram guessed initial executed registers signals signal runAnswer reachable samePremises undoesStep undone checks1to10 checkAnswer lowest instruction program digits stepLine testLine stepLines answerText verdictText Dec·and ℕ-discrete
+unfolding first firstFrom any grow decoded op cancelled parted paired match? isKey? headOf wordOf hasOne ruleTakesApart startOf badContents shapeOf recordAt term areInverse wayOf badTerm badKnowledge goodClaim checks1to4 checks1to5 registerTerm secondAt badStep unfounded checkSteps builtWithin round rounds entryMarks isDeducible relationOf instructionBytes bytesOf instructionAt badInstruction badTest badProgram guessed initial executed registers signals signal isPart isKnownPart isStale isStaleName runAnswer reachable samePremises undoesStep undone checks1to10 checkAnswer lowest instruction program digits stepLine testLine stepLines answerText verdictText Dec·and ℕ-discrete
 table-right = refl
 
 -- what it says of each example
@@ -402,6 +403,20 @@ calls =
     -- "run makes 1 to 5, then 13": 5 before 13 (M10, empty), and not 8 (M9)
     ∷ run (m10 .bytes) 2 [] (refused 5 0)
     ∷ run (m9 .bytes) 2 (0x01 ∷ 0x04 ∷ 0x01 ∷ 0x03 ∷ 0x3D ∷ 0x04 ∷ 0x00 ∷ []) (done 1)
+    -- 15, place 0: the atom is a message in the knowledge (M1, the name of n); 13 before 15, 5 before 15 (M10)
+    ∷ run (m1 .bytes) 1 (0x00 ∷ 0x3D ∷ 0x00 ∷ 0x00 ∷ []) (refused 15 0)
+    ∷ run (m1 .bytes) 1 [] (refused 13 0)
+    ∷ run (m10 .bytes) 1 (0x00 ∷ 0x3D ∷ 0x00 ∷ 0x00 ∷ []) (refused 5 0)
+    -- "The guess's own name stays allowed", a message in the knowledge (M9 above) or a part of one (M2, where n is the guess)
+    ∷ run (sets (m2 .bytes) 30 (0x00 ∷ [])) 1 (0x00 ∷ 0x3D ∷ 0x00 ∷ 0x00 ∷ []) (done 1)
+    -- 15: the atom is a key only (M2, where n is the guess, the name of g), or under a hash only (hashed, where a is the guess, the name of g)
+    ∷ run (sets (m2 .bytes) 30 (0x00 ∷ [])) 2 (0x00 ∷ 0x3D ∷ 0x00 ∷ 0x00 ∷ []) (refused 15 0)
+    ∷ run (sets (hashed .bytes) 30 (0x00 ∷ [])) 2 (0x00 ∷ 0x3D ∷ 0x00 ∷ 0x00 ∷ []) (refused 15 0)
+    -- "or that atom's inverse" (M8 with public 6 in place of k): the guess is public 6 and private 5 is known; or the guess is private 5 and public
+    -- 6 is part of the first entry. Of a fresh name neither is.
+    ∷ run (sets (sets (m8 .bytes) 18 (0x06 ∷ [])) 34 (0x00 ∷ [])) 5 (0x00 ∷ 0x3D ∷ 0x00 ∷ 0x00 ∷ []) (refused 15 0)
+    ∷ run (sets (sets (m8 .bytes) 18 (0x06 ∷ [])) 34 (0x01 ∷ [])) 6 (0x00 ∷ 0x3D ∷ 0x00 ∷ 0x00 ∷ []) (refused 15 0)
+    ∷ run (sets (sets (m8 .bytes) 18 (0x06 ∷ [])) 34 (0x01 ∷ [])) 2 (0x00 ∷ 0x3D ∷ 0x00 ∷ 0x00 ∷ []) (done 1)
     ∷ []
 
 abbrev pub call-got : Call → Answer
@@ -414,7 +429,7 @@ call-want (run s name P a) = a
 
 -- the computed fact of these calls
 pub calls-right : map call-got calls ≡ map call-want calls
-unfolding first firstFrom any grow decoded op cancelled parted match? headOf hasOne startOf badContents shapeOf recordAt term wayOf badTerm badKnowledge goodClaim checks1to4 checks1to5 builtWithin round rounds entryMarks isDeducible relationOf instructionAt badInstruction badTest badProgram guessed initial executed registers signals signal runAnswer deducibleAnswer Dec·and ℕ-discrete
+unfolding first firstFrom any grow decoded op cancelled parted match? headOf hasOne startOf badContents shapeOf recordAt term wayOf badTerm badKnowledge goodClaim checks1to4 checks1to5 builtWithin round rounds entryMarks isDeducible relationOf instructionAt badInstruction badTest badProgram guessed initial executed registers signals signal isPart isKnownPart isStale isStaleName runAnswer deducibleAnswer Dec·and ℕ-discrete
 calls-right = refl
 
 -- what it says of each call

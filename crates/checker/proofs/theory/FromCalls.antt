@@ -1,6 +1,6 @@
 -- The demands and A1's promises, from what the calls themselves return: a verdict or an answer, and the page after the call.
-use mathlib.Core.Path.{_≡_, sym, ap, _∙_, subst}
-use mathlib.Core.Logic.{_↔_, inl, inr, Iff·trans}
+use mathlib.Core.Path.{_≡_, refl, sym, ap, _∙_, subst}
+use mathlib.Core.Logic.{_↔_, _⊎_, inl, inr, ⊎-elim, Iff·trans}
 use mathlib.Core.List.{List}
 use Prim.Native.Nat.{ℕ, _≤_}
 use native.Mathlib.Omega.{arith}
@@ -11,17 +11,18 @@ use Rattle.base.specs.declared.Answer.the-variants as given
 use Rattle.base.specs.Answer.{Answer, done, refused, pageAfter, Clear, Refuses, answerOf}
 use Rattle.base.specs.Words.{Bytes}
 use Rattle.base.proofs.AnswerLaws.{refused-page}
+use Rattle.base.proofs.Says.{true-or-false, denies}
 use Rattle.base.proofs.RefusalLaws.{SomeHolds, refuses-some}
-use Rattle.term.specs.Step.{Deducible}
-use Rattle.submission.specs.Record.{steps, guess, nameAt, term, InKnowledge}
+use Rattle.term.specs.{Term.Stale, Step.Deducible}
+use Rattle.submission.specs.Record.{steps, guess, nameAt, term, InKnowledge, guessed}
 use Rattle.submission.specs.{Body.Bodies, Body.bodiesOf, Body.submissionOf, Check.rows1and2}
 use Rattle.form.specs.{Write.writeRows, Write.ReadsAs, Computed.writeAnswer, Calls.FormWritten}
 use Rattle.form.proofs.theory.{WriteAnswer.write-exact, RoundTrip.form-promise}
 use Rattle.deduction.specs.{Deduce.deducibleRows, Computed.deducibleAnswer}
 use Rattle.deduction.proofs.theory.DeducibleAnswer.{deducible-exact, yes-exact, no-exact}
 use Rattle.program.specs.Program.{bytesOf, programLength}
-use Rattle.machine.specs.{Run.runRows, Run.signal, Computed.runAnswer}
-use Rattle.machine.proofs.theory.RunAnswer.{run-exact}
+use Rattle.machine.specs.{Run.StaleName, Run.programRows, Run.runRows, Run.signal, Computed.isStaleName, Computed.runAnswer}
+use Rattle.machine.proofs.theory.{RunAnswer.says-stale-name, RunAnswer.run-exact, StaleNames.stale-exact, StaleNames.taken-clear, StaleNames.taken-fresh}
 use Rattle.conditions.specs.declared.Verdict.{Verdict}
 use Rattle.conditions.specs.declared.Verdict.the-variants.{Accepted, Refused}
 use Rattle.conditions.specs.{Calls.verdictAnswer, Calls.Checked, Calls.program, Condition.WellFormed, Condition.FiveConditions, Condition.checkRows, Demand.WrongGuess, Demand.KeptPromise}
@@ -85,6 +86,10 @@ module _ (s page page′ : List ℕ) (v : Verdict) (bytes : Bytes s) (call : Che
   call-keeps n e =
       subst (KeptPromise s page n) (sym (call .bytes)) (demand-3 s page bytes n (returned-verdict v (Accepted n) (call .answer) .0 e))
 
+  -- run takes that program
+  program-clear : (n : ℕ) → v ≡ Accepted n → Clear (programRows s (take (programLength n) page′))
+  program-clear n e = taken-clear s (take (programLength n) page′) bytes (nameAt s (guess s)) 1 (call-keeps n e .right)
+
   -- and a call of `run` with what an acceptance left, the same submission and a name, that returned r
   module _ (n name : ℕ) (accepted : v ≡ Accepted n) (r : AnswerGiven) (ran : answerOf r ≡ runAnswer s name (take (programLength n) page′)) where
     pub run-right : name ≡ nameAt s (guess s) → r ≡ given.Done 1
@@ -93,13 +98,31 @@ module _ (s page page′ : List ℕ) (v : Verdict) (bytes : Bytes s) (call : Che
     pub run-wrong : WrongGuess s name → r ≡ given.Done 0
     run-wrong w = returned r (given.Done 0) ran .1 (call-keeps n accepted .wrong name w)
 
+    -- another name than the guess's own is that of a wrong guess, or it is stale;
+    pub run-other : (name ≡ nameAt s (guess s) → ⊥) → ((r ≡ given.Done 0) × WrongGuess s name) ⊎ ((r ≡ given.Refused 15 0) × Stale (InKnowledge s) (guessed s name))
+    run-other d = ⊎-elim
+        (λ t. let z = says-stale-name s name .0 t in inr (returned r (given.Refused 15 0) ran .1 (stale-exact s _ bytes name 0 .1 (refl, program-clear n accepted, z)), z .1))
+        (λ f. let w : WrongGuess s name = record { other = d; fresh = λ t. denies _ (says-stale-name s name) .0 f (d, t) } in inl (run-wrong w, w)) (true-or-false (isStaleName s name))
+
+    -- so every other name that run takes signals 0
+    pub run-taken : (name ≡ nameAt s (guess s) → ⊥) → (m : ℕ) → r ≡ given.Done m → m ≡ 0
+    run-taken d m e = ⊎-elim (λ (f, _). let g : given.Done m ≡ given.Done 0 = sym e ∙ f in cc) (λ (f, _). let g : given.Done m ≡ given.Refused 15 0 = sym e ∙ f in cc) (run-other d)
+
 -- ---- a call of `run` on s, a name and any program P that returned r
 module _ (s P : List ℕ) (name : ℕ) (r : AnswerGiven) (bytes : Bytes s) (call : answerOf r ≡ runAnswer s name P) where
-  pub run-refuses : (n p : ℕ) → (r ≡ given.Refused n p) ↔ Refuses (runRows s P) n p
+  pub run-refuses : (n p : ℕ) → (r ≡ given.Refused n p) ↔ Refuses (runRows s name P) n p
   run-refuses n p = Iff·trans (returned r (given.Refused n p) call) (run-exact s P bytes name (refused n p))
 
-  pub run-signals : (n : ℕ) → (r ≡ given.Done n) ↔ (Clear (runRows s P) × (n ≡ signal s name P))
+  pub run-signals : (n : ℕ) → (r ≡ given.Done n) ↔ (Clear (runRows s name P) × (n ≡ signal s name P))
   run-signals n = Iff·trans (returned r (given.Done n) call) (run-exact s P bytes name (done n))
+
+  -- A3: it refuses with 15 exactly when the checks before pass and the name is stale;
+  pub run-stale : (p : ℕ) → (r ≡ given.Refused 15 p) ↔ ((p ≡ 0) × Clear (programRows s P) × StaleName s name)
+  run-stale p = Iff·trans (returned r (given.Refused 15 p) call) (stale-exact s P bytes name p)
+
+  -- and another name than the guess's own that it takes is that of a wrong guess
+  pub run-takes : (name ≡ nameAt s (guess s) → ⊥) → (n : ℕ) → r ≡ given.Done n → WrongGuess s name
+  run-takes d n e = record { other = d; fresh = taken-fresh s P bytes name n d (returned r (given.Done n) call .0 e) }
 
 -- ---- a call of `deducible` on s and the number t that returned r
 module _ (s : List ℕ) (t : ℕ) (r : AnswerGiven) (bytes : Bytes s) (call : answerOf r ≡ deducibleAnswer s t) where

@@ -14,11 +14,10 @@ use Rattle.base.specs.Words.{first, firstFrom, grow, Bytes}
 use Rattle.term.specs.Computed.{isPart}
 use Rattle.term.specs.Term.{decoded}
 use Rattle.base.specs.Answer.{done, pageAfter}
-use Rattle.submission.specs.Record.{startOf, term, recordAt}
+use Rattle.submission.specs.Record.{startOf, term, recordAt, guessed}
 use Rattle.term.specs.Number.{shapeOf}
 use Rattle.program.specs.Program.{programLength, bytesOf}
-use Rattle.submission.specs.Computed.{isKnownPart, isFresh}
-use Rattle.machine.specs.Run.{guessed}
+use Rattle.submission.specs.Computed.{isKnownPart, isStale}
 use Rattle.conditions.specs.Demand.{WrongGuess, KeptPromise}
 use Rattle.checker.proofs.theory.Examples.{Example, m1, m3, m8, wpa2, four-way, hashed, got, want, example-right}
 use Rattle.conditions.proofs.theory.Acceptance.{accepted-iff}
@@ -61,7 +60,7 @@ shown e n name g a l t page f =
 
 -- one example for each way; WPA2, the four-way handshake, and a hash whose y of 0 is no part
 pub examples-shown : Shown m3 3 60000 × Shown m1 1 3 × Shown m8 1 9 × Shown wpa2 1 7 × Shown four-way 9 7 × Shown hashed 1 9
-unfolding areBytes isWrongGuess isFresh isKnownPart isPart any first firstFrom grow decoded startOf shapeOf recordAt term guessed Dec·and ℕ-discrete
+unfolding areBytes isWrongGuess isStale isKnownPart isPart any first firstFrom grow decoded startOf shapeOf recordAt term guessed Dec·and ℕ-discrete
 examples-shown = (
   shown m3 3 60000 (example-right 2 (lit< tt)) refl (lit≤ tt) refl,
   shown m1 1 3 (example-right 0 (lit< tt)) refl (lit≤ tt) refl,

@@ -14,11 +14,11 @@ use Rattle.base.proofs.Says.{says-eqb, says-any}
 use Rattle.term.specs.Term.{Term, single, void}
 use Rattle.term.specs.Reduce.{op}
 use Rattle.term.specs.Number.{headOf, hasOne}
-use Rattle.submission.specs.Record.{entries, steps, entryAt, ruleAt, pAt, qAt, guess, term, secondAt}
+use Rattle.submission.specs.Record.{entries, steps, entryAt, ruleAt, pAt, qAt, guess, term, secondAt, guessed}
 use Rattle.derivation.specs.{Step.registerTerm, Step.written, Computed.holdsTerm, Computed.every, Computed.isKnown}
 use Rattle.derivation.proofs.theory.RegisterTerms.{entry-register, guess-register, result-register}
 use Rattle.program.specs.Program.{bytesOf, programLength, instructionAt, operand}
-use Rattle.machine.specs.Run.{guessed, executed, registers}
+use Rattle.machine.specs.Run.{executed, registers}
 use Rattle.program.proofs.theory.Bytes.{program-length, instruction-back}
 use Rattle.machine.proofs.theory.RunRegisters.{register-kept, register-written, register-entry, register-guess}
 use Rattle.derivation.specs.Step.{rule, firstPremise, secondPremise, concluded}

@@ -13,21 +13,21 @@ use Rattle.base.specs.Words.{listed, Bytes}
 use Rattle.base.proofs.Grow.{length-listed, listed-at}
 use Rattle.base.proofs.Order.{lt-or-ge}
 use Rattle.base.proofs.Says.{says-and, says-true, denies}
-use Rattle.term.specs.Term.{Head, Term, atom, single, isKey, inverse}
+use Rattle.term.specs.Term.{Head, Term, atom, atomKind, single, isKey, inverse}
 use Rattle.term.specs.Reduce.{op}
 use Rattle.term.specs.Number.{rules, hasOne}
 use Rattle.term.specs.Step.{Undoes}
 use Rattle.term.proofs.Reduce.{step-op}
 use Rattle.term.proofs.Reach.{Reach, known, reach-iff}
 use Rattle.term.proofs.Guess.{UndoesSome, OutOfReach, FreshGuess, MayHold, clean, tried, Executed, op-may-hold, another-step-differs, at-start-differs, verified-no-key}
-use Rattle.submission.specs.{Record.entries, Record.steps, Record.entryAt, Record.ruleAt, Record.pAt, Record.qAt, Record.conclusionAt, Record.guess, Record.verifying, Record.wayAt, Record.companion, Record.nameAt, Record.term, Computed.areInverse, Record.InKnowledge}
+use Rattle.submission.specs.{Record.entries, Record.steps, Record.entryAt, Record.ruleAt, Record.pAt, Record.qAt, Record.conclusionAt, Record.guess, Record.verifying, Record.wayAt, Record.companion, Record.nameAt, Record.term, Computed.areInverse, Record.InKnowledge, Record.guessed}
 use Rattle.submission.specs.Check.{Way, another-step, at-start, inverse-key, wayOf}
 use Rattle.submission.proofs.theory.{ListedTerms.Claimed, ReadingRows.claimed-clear}
 use Rattle.derivation.specs.{Step.written, Computed.isKnown}
 use Rattle.submission.specs.Record.{secondAt}
 use Rattle.derivation.proofs.theory.{RegisterTerms.result-register, KnownPremises.first-known, KnownPremises.second-known}
 use Rattle.program.specs.Program.{relationOf, bytesOf}
-use Rattle.machine.specs.Run.{atomKind, guessed, holds as relates, signals, signal}
+use Rattle.machine.specs.Run.{holds as relates, signals, signal}
 use Rattle.program.proofs.theory.Bytes.{byte-count, test-back, program-passes}
 use Rattle.machine.proofs.theory.RunRegisters.{register-entry, register-guess, says-equal, says-inverse}
 use Rattle.conditions.specs.Computed.{hasSecondWay}

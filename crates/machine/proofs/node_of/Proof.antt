@@ -7,23 +7,14 @@ use Rattle.machine.proofs.node_of.Tie as tie
 term-at-requires : tie.Need-term-at-requires
 term-at-requires c κs = search needs
 
-wide16-requires : tie.Need-wide16-requires
-wide16-requires c κs = search needs
-
 is-atom-requires : tie.Need-is-atom-requires
 is-atom-requires c κs = search needs
 
-wide16-requires-2 : tie.Need-wide16-requires-2
-wide16-requires-2 c κs = search needs
+add-t7 : tie.Need-add-t7
+add-t7 c = search atom-kind-fits
 
-add-t9 : tie.Need-add-t9
-add-t9 c = search atom-kind-fits
-
-mul-t10 : tie.Need-mul-t10
-mul-t10 c = search needs
-
-add-t11 : tie.Need-add-t11
-add-t11 c = search needs
+name-of-requires : tie.Need-name-of-requires
+name-of-requires c κs = search needs
 
 returns : tie.Need-returns
 returns c = search node-atomic
@@ -34,8 +25,11 @@ second-part-requires c κs = search needs
 rule-of-requires : tie.Need-rule-of-requires
 rule-of-requires c κs = search needs
 
-wide16-requires-3 : tie.Need-wide16-requires-3
-wide16-requires-3 c κs = search needs
+wide16-requires : tie.Need-wide16-requires
+wide16-requires c κs = search needs
+
+wide16-requires-2 : tie.Need-wide16-requires-2
+wide16-requires-2 c κs = search needs
 
 returns-2 : tie.Need-returns-2
 returns-2 c = search node-compound
@@ -45,14 +39,12 @@ node-of-spec =
     tie.close
     (tie.spec
     term-at-requires
-    wide16-requires
     is-atom-requires
-    wide16-requires-2
-    add-t9
-    mul-t10
-    add-t11
+    add-t7
+    name-of-requires
     returns
     second-part-requires
     rule-of-requires
-    wide16-requires-3
+    wide16-requires
+    wide16-requires-2
     returns-2)

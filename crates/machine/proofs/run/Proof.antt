@@ -1,6 +1,6 @@
--- `run` answers what checks 1 to 5, check 13 and the machine give.
+-- `run` answers what checks 1 to 5, 13 and 15 and the machine give.
 use Rattle.base.proofs.StageLaws.{bytes}
-use Rattle.machine.proofs.theory.RunAnswer.{read, test-ready, run-stopped, run-refused, run-signals}
+use Rattle.machine.proofs.theory.RunAnswer.{read, run-stopped, run-refused, run-tried}
 use Rattle.program.proofs.theory.Check13.{program-good, program-asks}
 use borrow.Author.Needs.{needs}
 use Rattle.machine.proofs.run.Statement.{statement}
@@ -36,14 +36,11 @@ enum-told-2 c = search needs
 returns-2 : tie.Need-returns-2
 returns-2 c = search (run-refused, needs)
 
-executed-requires : tie.Need-executed-requires
-executed-requires c κs = (search (read, bytes), search program-good)
-
-signal-requires : tie.Need-signal-requires
-signal-requires c κs = (search (test-ready, program-good), search program-asks)
+tried-requires : tie.Need-tried-requires
+tried-requires c κs = (search (read, bytes), (search program-good, search program-asks))
 
 returns-3 : tie.Need-returns-3
-returns-3 c = search (run-signals, needs)
+returns-3 c = search (run-tried, needs)
 
 pub run-spec : {M : Type 1} → statement M
 run-spec =
@@ -59,6 +56,5 @@ run-spec =
     enum-known-asked
     enum-told-2
     returns-2
-    executed-requires
-    signal-requires
+    tried-requires
     returns-3)

@@ -1,10 +1,11 @@
 -- Looking for a node, and tests on nodes, one test at a time.
-use mathlib.Core.Path.{_≡_, refl, sym, ap, _∙_}
+use mathlib.Core.Path.{_≡_, refl, sym, ap, ap₂, _∙_}
 use mathlib.Core.Bool.{Bool, true, false, and-true, and-false, or-false}
-use mathlib.Core.List.{List}
+use mathlib.Core.List.{List, [], _∷_, _++_}
 use mathlib.Core.Logic.{⊎-elim}
 use mathlib.Core.Option.{Option, none, some}
 use Prim.Native.Nat.{ℕ, _+_, _≤_, _<_}
+use native.Mathlib.Omega.{arith}
 use lib.Dec.{eqb, leb}
 use lib.ListN.{length, set}
 use borrow.Author.Tests.{eq-eqb, ne-eqb, le-leb, lt-leb}
@@ -17,8 +18,8 @@ use Rattle.machine.specs.declared.Node.{Node}
 use Rattle.machine.specs.declared.Machine.{Machine}
 use Rattle.machine.specs.declared.Found.{Found}
 use Rattle.machine.specs.declared.Found.the-variants.{At, Nothing}
-use Rattle.machine.specs.Code.{atomHead, recordFor, nodeOf, termAt, sameNode, isNodeFrom, foundOf, orFound, inverseNodes, withValue, Valued, Gives}
-use Rattle.machine.proofs.theory.StateGrowth.{isNode, Fit, stored-gives, register-stored, node-added}
+use Rattle.machine.specs.Code.{atomHead, recordFor, nodeOf, termAt, sameNode, isNodeFrom, foundOf, orFound, inverseNodes, withValue, Valued, Gives, Room, numberOf, nodesWith}
+use Rattle.machine.proofs.theory.StateGrowth.{isNode, Fit, stored-gives, register-stored, node-added, spare, spare-terms, spare-sound, spare-values}
 
 -- ---- looking for a node
 -- none before the number where the search starts
@@ -36,15 +37,15 @@ module _ (hs ls rs : List ℕ) (v : Node) (from : ℕ) {n i : ℕ} (p : Passed (
   pub found-none : n ≤ i → Nothing ≡ foundOf (first (isNodeFrom hs ls rs v from) n)
   found-none l = rw (passed-all p l)
 
-found-at : (o : Option ℕ) (i : ℕ) → foundOf o ≡ At i → o ≡ some i
+pub found-at : (o : Option ℕ) (i : ℕ) → foundOf o ≡ At i → o ≡ some i
 found-at none i e = cc
 found-at (some j) i e = cc
 
-found-nothing : (o : Option ℕ) → foundOf o ≡ Nothing → o ≡ none
+pub found-nothing : (o : Option ℕ) → foundOf o ≡ Nothing → o ≡ none
 found-nothing none e = refl
 found-nothing (some j) e = cc
 
-says-same : (v w : Node) → Says (sameNode v w) ((v .head ≡ w .head) × ((v .left ≡ w .left) × (v .right ≡ w .right)))
+pub says-same : (v w : Node) → Says (sameNode v w) ((v .head ≡ w .head) × ((v .left ≡ w .left) × (v .right ≡ w .right)))
 says-same v w = says-and _ _ (says-eqb _ _) (says-and _ _ (says-eqb _ _) (says-eqb _ _))
 
 pub same-node : {v w : Node} → sameNode v w ≡ true → v ≡ w
@@ -53,6 +54,24 @@ same-node {v} {w} t = let u = says-same v w .0 t in rw (u .0, u .1 .0, u .1 .1)
 -- no node of the state m before this number is v
 pub record Absent (m : Machine) (v : Node) (from : ℕ) : Type 0 where
   pub none : (k : ℕ) → k < from → isNode m v k ≡ false
+
+-- the state with the node v after the last one, and the number of v, which was found or not, in the next register
+abbrev pub placed : Machine → Node → Found → Machine
+placed m v o = record { heads = set (m .heads) (m .nodes) (v .head); lefts = set (m .lefts) (m .nodes) (v .left); rights = set (m .rights) (m .nodes) (v .right); nodes = nodesWith o (m .nodes); registers = set (m .registers) (m .used) (numberOf o (m .nodes)); used = m .used + 1 }
+
+pub record Placed (m : Machine) (v : Node) (o : Found) (r : Machine) : Type 0 where
+  pub room : Room m
+  pub space : m .used < length (m .registers)
+  pub is : r ≡ placed m v o
+
+pub nodes-more : (n : ℕ) {o : Found} → o ≡ Nothing → n + 1 ≡ nodesWith o n
+nodes-more n e = rw e
+
+-- as the code writes it
+pub placed-so : {m : Machine} {v : Node} {o : Found} {n k i a b : ℕ} → m .nodes < length (m .heads) → m .nodes < length (m .lefts) → m .nodes < length (m .rights) → m .used < length (m .registers) →
+    n ≡ m .nodes → k ≡ n → i ≡ m .used → a ≡ numberOf o n → b ≡ nodesWith o n →
+    Placed m v o (record { heads = set (m .heads) k (v .head); lefts = set (m .lefts) k (v .left); rights = set (m .rights) k (v .right); nodes = b; registers = set (m .registers) i a; used = m .used + 1 })
+placed-so x y z u c d e f g = record { room = record { heads = x; lefts = y; rights = z }; space = u; is = rw (g, f, e, d, c) }
 
 -- a search from a number on, before which the node is not
 module _ {m : Machine} {v : Node} (from : ℕ) {o : Found} (f : Fit m v) (a : Absent m v from) (e : o ≡ foundOf (first (isNodeFrom (m .heads) (m .lefts) (m .rights) v from) (m .nodes))) where
@@ -75,6 +94,22 @@ module _ {m : Machine} {v : Node} (from : ℕ) {o : Found} (f : Fit m v) (a : Ab
           let (l, t) = there h in
           let u : termAt m i ≡ message (termAt m) (recordFor v) = f .sound .table .reads i l ∙ ap (λ z. message (termAt m) (recordFor z)) (same-node t) in
           rw (q, ← u) (stored-gives (register-stored (f .sound) l (w .space) refl))
+      go Nothing h q = rw q (node-added m v (w .room) f (nowhere h) (w .space))
+
+  -- in place: the node is put after the last one, and its number, or that of the node found, into the next register
+  pub placed-gives : {r : Machine} → Placed m v o r → Gives m (message (termAt m) (recordFor v)) r
+  placed-gives {r} w = go o refl (w .is)
+    where
+      go : (z : Found) → o ≡ z → r ≡ placed m v z → Gives m (message (termAt m) (recordFor v)) r
+      go (At i) h q =
+          let (l, t) = there h in
+          let u : termAt m i ≡ message (termAt m) (recordFor v) = f .sound .table .reads i l ∙ ap (λ z. message (termAt m) (recordFor z)) (same-node t) in
+          let p = register-stored {m = spare m v (w .room)} {n = i} (spare-sound m v (w .room) (f .sound)) l (w .space) refl in
+          rw q (record {
+            holds = record { sound = p .holds .sound; is = p .holds .is ∙ ap₂ (λ vs t. vs ++ t ∷ []) (spare-values m v (w .room)) (spare-terms m v (w .room) i ∙ u) };
+            used = p .used;
+            few = omega (arith, p .nodes);
+          })
       go Nothing h q = rw q (node-added m v (w .room) f (nowhere h) (w .space))
 
 -- what was found first

@@ -1,7 +1,7 @@
 -- A run: the instructions of a program that passes check 13, its test, and the answer.
 use mathlib.Core.Logic.{_↔_}
 use mathlib.Core.Path.{_≡_, sym, ap, ap₂, _∙_}
-use mathlib.Core.Bool.{Bool, false, cond}
+use mathlib.Core.Bool.{Bool, true, false, cond}
 use mathlib.Core.Option.{Option, some}
 use mathlib.Core.List.{List, [], _∷_, _++_}
 use Prim.Native.Nat.{ℕ, _+_, _≤_, _<_}
@@ -15,12 +15,13 @@ use Rattle.submission.specs.declared.Claim.{Claim}
 use Rattle.submission.specs.declared.Reading.{Reading}
 use Rattle.submission.specs.declared.Reading.the-variants.{Refused}
 use Rattle.submission.specs.declared.Reading.the-variants as reading
-use Rattle.submission.specs.Code.{readingCheck, ReadingIs}
+use Rattle.submission.specs.Code.{readingCheck, ReadingIs, SubmissionRead}
 use Rattle.base.specs.Answer.{Answer as Given, done, refused, Answers, answerOf}
-use Rattle.base.proofs.Says.{refutes}
-use Rattle.base.proofs.RefusalLaws.{tells-if, tells-then, answers-iff}
-use Rattle.submission.proofs.theory.ReadingRows.{tells-1-to-5}
-use Rattle.base.specs.Computed.{passes, failsIf, answered}
+use Rattle.base.proofs.Says.{Says, says-eqb, says-and, says-not, refutes}
+use Rattle.base.proofs.RefusalLaws.{Tells, tells-if, tells-then, answers-iff}
+use Rattle.submission.specs.Record.{guess, nameAt, guessed}
+use Rattle.submission.proofs.theory.{ReadingRows.tells-1-to-5, StaleTests.says-stale}
+use Rattle.base.specs.Computed.{passes, failsIf, andThen, answered}
 use Rattle.base.specs.Code.{checkOf}
 use Rattle.machine.specs.declared.Node.{Node}
 use Rattle.machine.specs.declared.Machine.{Machine}
@@ -34,14 +35,14 @@ use Rattle.term.specs.Term.{Relation, equal, inverses}
 use Rattle.program.specs.Program.{relationOf, Instruction, instructionAt, testAt}
 use Rattle.program.specs.Code.{relationIn, asked}
 use Rattle.program.proofs.theory.Check13.{right-fits, operand-fits, program-iff, program-good, program-bad}
-use Rattle.machine.specs.Run.{executed, registers, holds, signals, signal, runRows}
-use Rattle.machine.specs.Code.{nodeIn, inverseNodes, termAt, register, values, Gives, Executable, SubmissionRead, Started, Running, Testable}
+use Rattle.machine.specs.Run.{executed, registers, holds, signals, signal, StaleName, programRows, runRows}
+use Rattle.machine.specs.Code.{nodeIn, inverseNodes, termAt, register, values, Gives, Executable, guessNode, Started, Running, Testable}
 use Rattle.machine.proofs.theory.InstructionResult.{value-at}
 use Rattle.machine.proofs.theory.KeyNodes.{one-term, inverse-keys}
 use Rattle.machine.proofs.theory.StartState.{facts}
 use Rattle.submission.specs.Computed.{checks1to5}
 use Rattle.program.specs.Computed.{badProgram}
-use Rattle.machine.specs.Computed.{runAnswer}
+use Rattle.machine.specs.Computed.{isStaleName, runAnswer}
 
 -- ---- the instructions
 pub running-none : (P : List ℕ) {s : List ℕ} {name : ℕ} {m : Machine} → Started s name m → Running s name P 0 m
@@ -111,12 +112,14 @@ module _ (P : List ℕ) {m : Machine} {u : Instruction} {p q : ℕ} (w : Testabl
         r ≡ cond (signals (values m) (testAt P)) 1 0
     signal-inverse k a c v = tested (some inverses) (asks k) (v ∙ inverse-keys (w .sound) left-below right-below a c)
 
--- ---- the answer
-pub test-ready : (s P : List ℕ) {name : ℕ} {m : Machine} → badProgram s P ≡ false → Running s name P (byte P 0) m → Testable m (testAt P)
-test-ready s P g h =
+-- after the last instruction it can be made
+pub test-ready : (s P : List ℕ) {name i n : ℕ} {m : Machine} → badProgram s P ≡ false → Running s name P i m → i ≤ n → n ≤ i → n ≡ byte P 0 → Testable m (testAt P)
+test-ready s P g r a b c =
+    let h = running-all r a b c in
     let z = program-iff s P .0 g in
     record { sound = h .holds .sound; left = rw (h .used) (z .test-right .0); right = rw (h .used) (right-fits _ _ (testAt P) (z .test-right)); room = omega (arith, h .few, z .few) }
 
+-- ---- the answer
 module _ (s P : List ℕ) (name : ℕ) {rd : Reading} (e : ReadingIs s (checks1to5 s) rd) where
   pub run-stopped : {m k : ℕ} (st : Stage) (r : Answer) → rd ≡ Refused m k → checkOf st ≡ readingCheck rd → answerOf r ≡ answered (checkOf st) (done 0) →
       answerOf r ≡ runAnswer s name P
@@ -135,15 +138,38 @@ module _ (s P : List ℕ) (name : ℕ) {rd : Reading} (e : ReadingIs s (checks1t
       unfolding runAnswer
       run-refused t = rw (reading-passes, program-bad s P g t)
 
-      pub run-signals : {l : RelationGiven} {m : Machine} {r : ℕ} → o ≡ Asks l → Running s name P (byte P 0) m → r ≡ cond (signals (values m) (testAt P)) 1 0 → done r ≡ runAnswer s name P
-      unfolding runAnswer signal
-      run-signals t h k = rw (reading-passes, program-good s P g t, k, h .holds .is)
+      pub run-tried : {l : RelationGiven} (r : Answer) → o ≡ Asks l → answerOf r ≡ answered (failsIf (isStaleName s name) 15 0) (done (signal s name P)) → answerOf r ≡ runAnswer s name P
+      unfolding runAnswer
+      run-tried r t h = h ∙ rw (reading-passes, program-good s P g t)
+
+-- ---- check 15, and the signal
+module _ (s P : List ℕ) (name : ℕ) {v : Node} (q : v ≡ guessNode s name) {b : Bool} (i : b ≡ isStaleName s (v .left)) where
+  named : isStaleName s name ≡ b
+  named = sym (i ∙ ap (λ z. isStaleName s (z .left)) q)
+
+  pub tried-stale : b ≡ true → refused 15 0 ≡ answered (failsIf (isStaleName s name) 15 0) (done (signal s name P))
+  tried-stale j = rw (named, j)
+
+  pub tried-fresh : {r : ℕ} → b ≡ false → r ≡ signal s name P → done r ≡ answered (failsIf (isStaleName s name) 15 0) (done (signal s name P))
+  tried-fresh j k = rw (named, j, k)
+
+pub signal-ran : (s P : List ℕ) (name : ℕ) {m : Machine} {r : ℕ} → Running s name P (byte P 0) m → r ≡ cond (signals (values m) (testAt P)) 1 0 → r ≡ signal s name P
+unfolding signal
+signal-ran s P name h k = rw (k, h .holds .is)
 
 -- ---- Demand 1, run
--- Run answers as rows 1 to 5, row 13 and the signal say, and nothing else: "For every program that run takes, the signal that it answers is this
+pub says-stale-name : (s : List ℕ) (name : ℕ) → Says (isStaleName s name) (StaleName s name)
+unfolding isStaleName
+says-stale-name s name = says-and _ _ (says-not _ (says-eqb name (nameAt s (guess s)))) (says-stale s (guessed s name))
+
+pub tells-program : (s P : List ℕ) → Bytes s → Tells (andThen (checks1to5 s) (failsIf (badProgram s P) 13 0)) (programRows s P)
+tells-program s P b =
+    tells-then (checks1to5 s) (failsIf (badProgram s P) 13 0) (tells-1-to-5 s b) (λ _. tells-if (badProgram s P) 13 0 (refutes _ (program-iff s P)))
+
+-- Run answers as rows 1 to 5, 13, 15 and the signal say, and nothing else: "For every program that run takes, the signal that it answers is this
 -- machine's."
-pub run-exact : (s P : List ℕ) → Bytes s → (name : ℕ) (a : Given) → (runAnswer s name P ≡ a) ↔ Answers (runRows s P) (λ v. v ≡ signal s name P) a
+pub run-exact : (s P : List ℕ) → Bytes s → (name : ℕ) (a : Given) → (runAnswer s name P ≡ a) ↔ Answers (runRows s name P) (λ v. v ≡ signal s name P) a
 unfolding runAnswer
 run-exact s P b name =
-    answers-iff (tells-then (checks1to5 s) (failsIf (badProgram s P) 13 0) (tells-1-to-5 s b) (λ _. tells-if (badProgram s P) 13 0 (refutes _ (program-iff s P))))
+    answers-iff (tells-then _ (failsIf (isStaleName s name) 15 0) (tells-program s P b) (λ _. tells-if (isStaleName s name) 15 0 (says-stale-name s name)))
     (signal s name P) (λ v. v ≡ signal s name P) (λ _ v. (sym, sym))

@@ -12,10 +12,10 @@ use Rattle.base.specs.Words.{grow, listed}
 use Rattle.term.specs.{Term.asymmetric, Term.Term, Computed.term?, Term.isKey, Term.inverse as inverse-of}
 use Rattle.term.specs.Computed.{match?}
 use Rattle.term.proofs.Reduce.{says-test}
-use Rattle.submission.specs.Record.{entries, entryAt, term}
+use Rattle.submission.specs.Record.{entries, entryAt, term, guessed}
 use Rattle.term.specs.Term.{equal, inverses, void}
 use Rattle.program.specs.Program.{instructionAt}
-use Rattle.machine.specs.Run.{guessed, initial, executed, registers, holds}
+use Rattle.machine.specs.Run.{initial, executed, registers, holds}
 
 module _ (s : List ℕ) (name : ℕ) where
   length-initial : length (initial s name) ≡ entries s + 1

@@ -12,22 +12,22 @@ use lib.ListN.{length, getD, set, length-set, length-append}
 use borrow.Author.Count.{below-more}
 use Rattle.base.specs.Words.{grow}
 use Rattle.base.proofs.Grow.{length-listed}
-use Rattle.term.specs.Term.{Kind, plain, public, private, Shape, atomic, compound, atom, leaf, message, void, decoded}
+use Rattle.term.specs.Term.{Kind, plain, public, private, Shape, atomic, compound, atomKind, Term, atom, leaf, message, void, decoded}
 use Rattle.term.specs.{Number.shapeOf, Computed.kindOf}
 use Rattle.term.specs.Code.{isUnary, builderOf, Table}
 use Rattle.term.proofs.Kind.{shape-kind}
 use Rattle.submission.specs.declared.Term.{Term as TermRead}
-use Rattle.submission.specs.Record.{terms, entries, entryAt, guess, kindAt, nameAt, recordAt, term}
-use Rattle.submission.specs.Code.{IsTerm}
+use Rattle.submission.specs.Record.{terms, entries, entryAt, guess, kindAt, nameAt, recordAt, term, guessed}
+use Rattle.submission.specs.Code.{IsTerm, SubmissionRead}
 use Rattle.submission.proofs.theory.ListedTerms.{Claimed, claimed}
 use Rattle.machine.specs.declared.Node.{Node}
 use Rattle.machine.specs.declared.Machine.{Machine}
-use Rattle.machine.specs.declared.Found.the-variants.{Nothing}
-use Rattle.machine.specs.Run.{atomKind, guessed, initial}
-use Rattle.machine.specs.Code.{atoms, atomHead, recordFor, nodeFor, nodeIn, nodeAt, termAt, values, SoundState, withNode, Room, valueOf, Valued, SubmissionRead, knowledge, Loaded, Started}
+use Rattle.machine.specs.declared.Found.{Found}
+use Rattle.machine.specs.Run.{initial}
+use Rattle.machine.specs.Code.{atoms, atomHead, recordFor, nodeFor, nodeIn, nodeAt, termAt, values, SoundState, withNode, Room, guessNode, numberIn, knowledge, Loaded, Started}
 use Rattle.machine.proofs.theory.NodeRecords.{atom-record, record-node}
 use Rattle.machine.proofs.theory.StateGrowth.{decoded-alike, node-old, node-new, Fit, register-stored}
-use Rattle.machine.proofs.theory.NodeSearch.{Absent, found-gives}
+use Rattle.machine.proofs.theory.NodeSearch.{Absent, Placed, placed-gives}
 use Rattle.term.specs.Computed.{isAtomic}
 
 -- what holds of the terms, and of the claim, after checks 1 to 5
@@ -60,8 +60,8 @@ module _ {s : List ℕ} {t : ℕ} {z : TermRead} (w : SubmissionRead s) (l : t <
     pub atom-kind-fits : Fits w8 (atoms + z .kind)
     atom-kind-fits = rw (kind-of .2) (kind-fits (kind-of .0))
 
-    pub node-atomic : {x y : ℕ} → x ≡ z .x → y ≡ z .y → record { head = atoms + z .kind; left = x * 256 + y; right = 0 } ≡ nodeFor (recordAt s t)
-    node-atomic f g =
+    pub node-atomic : {n : ℕ} → n ≡ z .x * 256 + z .y → record { head = atoms + z .kind; left = n; right = 0 } ≡ nodeFor (recordAt s t)
+    node-atomic f =
         let (κ, p, q) = kind-of in
         let r = atomic-node s t κ p in
         cc (e .x, e .y)
@@ -82,10 +82,11 @@ pub record Filled (s : List ℕ) (m : Machine) (t : ℕ) : Type 0 where
   pub lefts : length (m .lefts) ≡ 384
   pub rights : length (m .rights) ≡ 384
   pub nodes : (k : ℕ) → k < t → nodeIn m k ≡ nodeFor (recordAt s k)
+  pub registers : length (m .registers) ≡ 256
   pub used : m .used ≡ 0
 
-pub filled-none : (s : List ℕ) {m : Machine} → m .used ≡ 0 → length (m .heads) ≡ 384 → length (m .lefts) ≡ 384 → length (m .rights) ≡ 384 → Filled s m 0
-filled-none s u h l r = record { heads = h; lefts = l; rights = r; nodes = λ k b. absurd (omega arith); used = u }
+pub filled-none : (s : List ℕ) {m : Machine} → m .used ≡ 0 → length (m .heads) ≡ 384 → length (m .lefts) ≡ 384 → length (m .rights) ≡ 384 → length (m .registers) ≡ 256 → Filled s m 0
+filled-none s u h l r g = record { heads = h; lefts = l; rights = r; nodes = λ k b. absurd (omega arith); registers = g; used = u }
 
 -- the state m with t nodes
 abbrev at : Machine → ℕ → Machine
@@ -99,6 +100,7 @@ module _ {s : List ℕ} {m : Machine} {t : ℕ} (w : SubmissionRead s) (f : Fill
     lefts = simp length-set (f .lefts);
     rights = simp length-set (f .rights);
     nodes = below-more (λ k. nodeIn (withNode (at m t) v) k ≡ nodeFor (recordAt s k)) t (λ k l. node-old (at m t) v room k l ∙ f .nodes k l) (node-new (at m t) v room ∙ g);
+    registers = f .registers;
     used = f .used;
   })
     where
@@ -135,7 +137,7 @@ module _ {s : List ℕ} {m : Machine} {t : ℕ} (w : SubmissionRead s) (f : Fill
   pub terms-loaded : {n N : ℕ} → n ≤ t → n ≡ terms s → N ≡ n → Loaded s [] (record { heads = m .heads; lefts = m .lefts; rights = m .rights; nodes = N; registers = m .registers; used = m .used })
   terms-loaded b c e =
       let l : terms s ≤ t = omega arith in
-      rw (e, c) (record { holds = record { sound = terms-sound l; is = none-written l }; used = f .used; nodes = refl; is = terms-held l })
+      rw (e, c) (record { holds = record { sound = terms-sound l; is = none-written l }; used = f .used; nodes = refl; is = terms-held l; records = record { is = λ k b. f .nodes k (omega arith) }; long = f .registers })
 
 -- ---- the knowledge
 knowledge-length : (s : List ℕ) (n : ℕ) → length (knowledge s n) ≡ n
@@ -155,16 +157,18 @@ module _ {s : List ℕ} {m : Machine} {i n : ℕ} (w : SubmissionRead s) (h : Lo
   pub entry-space : {k : ℕ} → k ≡ m .used → k < 256
   entry-space e = omega (arith, h .used, knowledge-length s i, facts w .read .entries-most)
 
-  pub knowledge-more : {a x k : ℕ} → length (m .registers) ≡ 256 → a ≡ entryAt s i → x ≡ a → k ≡ m .used →
+  pub knowledge-more : {a x k : ℕ} → a ≡ entryAt s i → x ≡ a → k ≡ m .used →
       Loaded s (knowledge s (i + 1)) (record { heads = m .heads; lefts = m .lefts; rights = m .rights; nodes = m .nodes; registers = set (m .registers) k x; used = m .used + 1 })
   unfolding grow
-  knowledge-more g e f q =
-      let z = register-stored (h .holds .sound) (entry-below e f) (rw g (entry-space refl)) q in
+  knowledge-more {a} {x} {k} e f q =
+      let z = register-stored (h .holds .sound) (entry-below e f) (rw (h .long) (entry-space refl)) q in
       rw (add-one i) (record {
         holds = record { sound = z .holds .sound; is = z .holds .is ∙ ap₂ (λ vs t. vs ++ t ∷ []) (h .holds .is) (h .is _ ∙ ap (term s) (f ∙ e)) };
         used = simp length-append (omega (arith, z .used, h .used));
         nodes = z .nodes ∙ h .nodes;
         is = λ k. z .terms k ∙ h .is k;
+        records = record { is = h .records .is };
+        long = length-set (m .registers) k x ∙ h .long;
       })
 
 pub knowledge-all : {s : List ℕ} {m : Machine} {i n : ℕ} → Loaded s (knowledge s i) m → i ≤ n → n ≤ i → n ≡ entries s → Loaded s (knowledge s (entries s)) m
@@ -172,46 +176,60 @@ knowledge-all {s} {m} {i} {n} h a b c = let e : i ≡ entries s = omega arith in
 
 -- ---- the guess
 module _ {s : List ℕ} {g : ℕ} {z : TermRead} (w : SubmissionRead s) (e : IsTerm s g z) (f : g ≡ guess s) where
-  guess-kind : z .kind ≡ kindOf (atomic (facts w .guess-kind))
-  guess-kind = e .kind ∙ ap (kindAt s) f ∙ shape-kind _ _ (facts w .guess-shape)
+  guess-is : z .kind ≡ kindAt s (guess s)
+  guess-is = e .kind ∙ ap (kindAt s) f
 
   pub guess-fits : Fits w8 (atoms + z .kind)
-  guess-fits = rw guess-kind (kind-fits (facts w .guess-kind))
+  guess-fits = rw (guess-is ∙ shape-kind _ _ (facts w .guess-shape)) (kind-fits (facts w .guess-kind))
 
-  module _ {m : Machine} (name : ℕ) (h : Loaded s (knowledge s (entries s)) m) where
-    abbrev guessNode : Node
-    guessNode = record { head = atoms + z .kind; left = name; right = 0 }
+  pub guess-node : (name : ℕ) → record { head = atoms + z .kind; left = name; right = 0 } ≡ guessNode s name
+  guess-node name = rw guess-is
 
-    guess-record : recordFor guessNode ≡ leaf (facts w .guess-kind) name
-    guess-record = rw guess-kind (atom-record (facts w .guess-kind) name 0)
+-- the node of the atom of a kind with a name, and that of the guess
+abbrev pub atomNode : Kind → ℕ → Node
+atomNode κ name = record { head = atomHead κ; left = name; right = 0 }
 
-    guess-fit : Fit m guessNode
-    guess-fit = record {
-      sound = h .holds .sound;
-      canonical = rw guess-record (rw guess-kind refl);
-      low = rw guess-record tt;
-    }
+pub guess-atom : {s : List ℕ} (w : SubmissionRead s) (name : ℕ) → guessNode s name ≡ atomNode (facts w .guess-kind) name
+guess-atom {s} w name = ap (λ k. record { head = atoms + k; left = name; right = 0 }) (shape-kind (kindAt s (guess s)) _ (facts w .guess-shape))
 
-    guess-absent : Absent m guessNode 0
-    guess-absent = record { none = λ k b. absurd (omega arith) }
+-- the guess's node is put after the terms, and its number into the next register
+module _ {s : List ℕ} {m : Machine} {v : Node} (w : SubmissionRead s) (name : ℕ) (h : Loaded s (knowledge s (entries s)) m) (g : v ≡ guessNode s name) where
+  guess-record : recordFor v ≡ leaf (facts w .guess-kind) name
+  guess-record = rw (g, guess-atom w name) (atom-record (facts w .guess-kind) name 0)
 
-    pub guess-started : {r : Machine} → Valued m guessNode (valueOf m guessNode 0 Nothing) r → Started s name r
-    unfolding initial guessed
-    guess-started v =
-        let d = found-gives 0 guess-fit guess-absent refl v in
-        record {
-          holds = record {
-            sound = d .holds .sound;
-            is = d .holds .is ∙ ap₂ (λ vs t. vs ++ t ∷ []) (h .holds .is) (ap (message (termAt m)) guess-record ∙ ap (λ o. atom (atomKind o) name) (sym (facts w .guess-shape)));
-          };
-          used = omega (arith, d .used, h .used, knowledge-length s (entries s));
-          few = omega (arith, d .few, h .nodes, facts w .read .terms-most);
-        }
+  guess-fit : Fit m v
+  guess-fit = record { sound = h .holds .sound; canonical = rw guess-record (sym (g ∙ guess-atom w name)); low = rw guess-record tt }
+
+  guess-absent : Absent m v 0
+  guess-absent = record { none = λ k b. absurd (omega arith) }
+
+  pub guess-started : {o : Found} {r : Machine} → o ≡ numberIn (m .heads) (m .lefts) (m .rights) (m .nodes) v → Placed m v o r → Started s name r
+  unfolding initial guessed
+  guess-started e p =
+      let d = placed-gives 0 guess-fit guess-absent e p in
+      record {
+        holds = record {
+          sound = d .holds .sound;
+          is = d .holds .is ∙ ap₂ (λ vs t. vs ++ t ∷ []) (h .holds .is) (ap (message (termAt m)) guess-record ∙ ap (λ o. atom (atomKind o) name) (sym (facts w .guess-shape)));
+        };
+        used = omega (arith, d .used, h .used, knowledge-length s (entries s));
+        few = omega (arith, d .few, h .nodes, facts w .read .terms-most);
+      }
 
 -- the state before the guess has room for it
 module _ {s : List ℕ} {m : Machine} (w : SubmissionRead s) (h : Loaded s (knowledge s (entries s)) m) where
-  pub guess-room : m .nodes < 384
-  guess-room = omega (arith, h .nodes, facts w .read .terms-most)
+  pub guess-room : {n : ℕ} → n ≡ m .nodes → n < 384
+  guess-room e = omega (arith, h .nodes, facts w .read .terms-most)
 
-  pub guess-space : m .used < 256
-  guess-space = omega (arith, h .used, knowledge-length s (entries s), facts w .read .entries-most)
+  pub guess-within : {n : ℕ} → n ≡ m .nodes → n ≤ 384
+  guess-within e = let b = guess-room e in omega arith
+
+  pub guess-space : {i : ℕ} → i ≡ m .used → i < 256
+  guess-space e = omega (arith, h .used, knowledge-length s (entries s), facts w .read .entries-most)
+
+-- the guess's node has the name
+pub guess-left : (s : List ℕ) {v : Node} (name : ℕ) → v ≡ guessNode s name → v ≡ guessNode s (v .left)
+guess-left s name e = rw e
+
+pub guess-terms : {s : List ℕ} {vs : List Term} {m : Machine} {n : ℕ} → Loaded s vs m → n ≡ m .nodes → n ≡ terms s
+guess-terms h e = e ∙ h .nodes

@@ -12,7 +12,7 @@ use borrow.Author.Count.{below-more}
 use borrow.Author.Tests.{eq-eqb}
 use Rattle.base.specs.Words.{grow}
 use Rattle.base.proofs.Grow.{length-grow, grow-alike}
-use Rattle.term.specs.Term.{Rec, message, void, decoded}
+use Rattle.term.specs.Term.{node, Rec, leaf, branch, message, void, decoded}
 use Rattle.term.specs.Code.{Below, Table}
 use Rattle.term.proofs.Table.{extended}
 use Rattle.machine.specs.declared.Node.{Node}
@@ -105,6 +105,36 @@ module _ (m : Machine) (v : Node) (room : Room m) where
   term-new : termAt (withNode m v) (m .nodes) ≡ message (termAt m) (recordFor v)
   unfolding termAt
   term-new = rw terms (getD-at (decoded (nodeAt m) (m .nodes)) _ [] void (m .nodes) (length-decoded (nodeAt m) (m .nodes)))
+
+  -- what is put after the last node is no node: the state holds what it held
+  abbrev pub spare : Machine
+  spare = record { heads = set (m .heads) (m .nodes) (v .head); lefts = set (m .lefts) (m .nodes) (v .left); rights = set (m .rights) (m .nodes) (v .right); nodes = m .nodes; registers = m .registers; used = m .used }
+
+  spare-record : (k : ℕ) → k < m .nodes → nodeAt spare k ≡ nodeAt m k
+  spare-record k b = ap recordFor (node-old k b)
+
+  pub spare-terms : (k : ℕ) → termAt spare k ≡ termAt m k
+  unfolding termAt
+  spare-terms k = ap (λ ts. getD ts k void) (decoded-alike (nodeAt spare) (nodeAt m) (m .nodes) spare-record)
+
+  spare-message : (r : Rec) → message (termAt spare) r ≡ message (termAt m) r
+  spare-message (leaf κ n) = refl
+  spare-message (branch h x y) = ap₂ (node h) (spare-terms x) (spare-terms y)
+
+  pub spare-sound : SoundState m → SoundState spare
+  spare-sound w = record {
+    table = record {
+      reads = λ k b. spare-terms k ∙ w .table .reads k b ∙ sym (spare-message (nodeAt m k)) ∙ ap (message (termAt spare)) (sym (spare-record k b));
+      earlier = λ k b. subst (Below k) (sym (spare-record k b)) (w .table .earlier k b);
+      distinct = λ j k b c e. w .table .distinct j k b c (sym (spare-record j b) ∙ e ∙ spare-record k c);
+    };
+    canonical = λ k b. rw (node-old k b) (w .canonical k b);
+    written = w .written;
+  }
+
+  pub spare-values : values spare ≡ values m
+  unfolding values
+  spare-values = grow-alike [] _ _ (m .used) (λ r l b. spare-terms (register m r))
 
   -- a node that is new goes to the next register
   module _ (f : Fit m v) (new : (k : ℕ) → k < m .nodes → isNode m v k ≡ false) (space : m .used < length (m .registers)) where

@@ -17,9 +17,9 @@ pub struct Answers {
     pub page: Vec<u8>,
     pub deducible: Vec<u32>,
     pub runs: Vec<u32>,
-    /// The signals of the program on the page, where the submission is accepted: with the right
-    /// guess, then with each of the input's other names.
-    pub signals: Vec<u32>,
+    /// What running the program on the page answers to each of the input's names, where the
+    /// submission is accepted.
+    pub page_runs: Vec<u32>,
     pub writes: Vec<Written>,
 }
 
@@ -55,7 +55,7 @@ impl Answers {
         let mut page = input.page.clone();
         let check = raw::check(submission, &mut page);
         Answers {
-            signals: signals(input, check, &page),
+            page_runs: page_runs(input, check, &page),
             check,
             page,
             deducible: input.asked.iter().map(|&term| raw::deducible(submission, term)).collect(),
@@ -80,13 +80,12 @@ impl Written {
     }
 }
 
-fn signals(input: &Input, check: u32, page: &[u8]) -> Vec<u32> {
+fn page_runs(input: &Input, check: u32, page: &[u8]) -> Vec<u32> {
     if check >= REFUSAL {
         return vec![];
     }
     let Some(program) = page.get(..program_length(check as usize)) else {
         return vec![];
     };
-    let names = [input.right].into_iter().chain(input.names.iter().copied());
-    names.map(|name| raw::run(&input.submission, name, program)).collect()
+    input.names.iter().map(|&name| raw::run(&input.submission, name, program)).collect()
 }

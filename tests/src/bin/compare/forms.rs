@@ -6,7 +6,7 @@ use checker_tests::tables::{Body, Call, Reason, LONGEST_PROGRAM};
 
 use crate::answers::Written;
 use crate::tally::Tally;
-use crate::{difference, hex, same, same_bytes};
+use crate::{difference, same, same_bytes, Hex};
 
 /// The answer and the whole page; and where the form is accepted, what was written.
 pub fn compare_form(
@@ -70,7 +70,7 @@ fn shown(form: &Form) -> String {
     let mut lines = vec![format!("form with a page of {} bytes", form.page.len())];
     for (body, bytes) in Body::ALL.into_iter().zip(form.bodies()) {
         let most = body.record() * (body.most() + 1);
-        let records = if bytes.len() > most { "..".to_string() } else { hex(bytes) };
+        let records = if bytes.len() > most { "..".to_string() } else { Hex(bytes).to_string() };
         lines.push(format!("{}, {} bytes: {records}", body.word(), bytes.len()));
     }
     lines.join("\n")

@@ -6,9 +6,12 @@
 
 mod answers;
 mod forms;
+mod names;
 mod rows;
+mod runs;
 mod tally;
 
+use std::fmt::{self, Display};
 use std::process::ExitCode;
 use std::time::Instant;
 
@@ -20,6 +23,7 @@ use checker_tests::generate::{deepest, Input, Source};
 use checker_tests::reference::{self, code, REFUSAL};
 use checker_tests::tables::Call;
 use forms::compare_form;
+use runs::{compare_page_runs, compare_runs};
 use tally::Tally;
 
 const DEFAULT_COUNT: u64 = 200_000;
@@ -100,28 +104,21 @@ fn compare_input(input: &Input, found: &Answers, tally: &mut Tally) -> Result<()
     compare_check(input, found, tally)?;
     for (&term, &found) in input.asked.iter().zip(&found.deducible) {
         let expected = reference::deducible(&input.submission, term);
-        same(input, &format!("deducible {term}"), code(expected), found)?;
+        same(input, format_args!("deducible {term}"), code(expected), found)?;
         tally.count(Call::Deducible, expected);
         if expected == Ok(true) {
             let needed = reference::needed_keys(&input.submission, term);
             tally.rows.count_needed(&needed.expect("the term is deducible"));
         }
     }
-    for ((name, program), &found) in input.runs.iter().zip(&found.runs) {
-        let expected = reference::run(&input.submission, *name, program);
-        same(input, &format!("run {name} {}", hex(program)), code(expected), found)?;
-        tally.count(Call::Run, expected);
-        if expected.is_ok() {
-            tally.rows.count_run(program);
-        }
-    }
+    compare_runs(input, &found.runs, tally)?;
     for (form, found) in input.forms.iter().zip(&found.writes) {
         compare_form(input, form, found, tally)?;
     }
     Ok(())
 }
 
-/// The verdict and the whole page; and where the submission is accepted, the signals of the page.
+/// The verdict and the whole page; and where the submission is accepted, what the page signals.
 fn compare_check(input: &Input, found: &Answers, tally: &mut Tally) -> Result<(), String> {
     let mut expected_page = input.page.clone();
     let expected = reference::check(&input.submission, &mut expected_page);
@@ -130,7 +127,7 @@ fn compare_check(input: &Input, found: &Answers, tally: &mut Tally) -> Result<()
     same_bytes(input, &call, &expected_page, &found.page)?;
     tally.count(Call::Check, expected.map(|_| true));
     match expected {
-        Ok(_) => compare_signals(input, &found.signals, tally),
+        Ok(_) => compare_page_runs(input, &found.page_runs, tally),
         Err(refusal) => {
             if let Ok(bodies) = Bodies::read(&input.submission) {
                 tally.rows.count_refused(&bodies, refusal);
@@ -140,23 +137,7 @@ fn compare_check(input: &Input, found: &Answers, tally: &mut Tally) -> Result<()
     }
 }
 
-/// The right guess signals 1 and each wrong one 0.
-fn compare_signals(input: &Input, signals: &[u32], tally: &mut Tally) -> Result<(), String> {
-    let submission = &input.submission;
-    let (kind, _) = reference::guess(submission).expect("the submission is accepted");
-    tally.count_accepted(submission, kind);
-    let (&right, others) = signals.split_first().expect("a signal for each name");
-    same(input, "run with the right guess", 1, right)?;
-    for (&name, &signal) in input.names.iter().zip(others) {
-        if reference::is_wrong_guess(submission, name) == Ok(true) {
-            same(input, &format!("run with the wrong guess {name}"), 0, signal)?;
-            tally.wrong_guesses += 1;
-        }
-    }
-    Ok(())
-}
-
-fn same(input: &Input, call: &str, expected: u32, found: u32) -> Result<(), String> {
+fn same(input: &Input, call: impl Display, expected: u32, found: u32) -> Result<(), String> {
     if expected == found {
         return Ok(());
     }
@@ -167,12 +148,12 @@ fn same_bytes(input: &Input, call: &str, expected: &[u8], found: &[u8]) -> Resul
     if expected == found {
         return Ok(());
     }
-    Err(difference(input, call, &format!("{} and {}", hex(expected), hex(found))))
+    Err(difference(input, call, &format!("{} and {}", Hex(expected), Hex(found))))
 }
 
 /// The two sides, the reference's first, and the input to try again.
-fn difference(input: &Input, call: &str, sides: &str) -> String {
-    format!("{call}: {sides}\nsubmission {}", hex(&input.submission))
+fn difference(input: &Input, call: impl Display, sides: &str) -> String {
+    format!("{call}: {sides}\nsubmission {}", Hex(&input.submission))
 }
 
 /// An answer of the C boundary in words.
@@ -183,6 +164,14 @@ fn answer(code: u32) -> String {
     }
 }
 
-fn hex(bytes: &[u8]) -> String {
-    bytes.iter().map(|byte| format!("{byte:02X}")).collect::<Vec<_>>().join(" ")
+/// Bytes to show as hexadecimal numbers.
+struct Hex<'a>(&'a [u8]);
+
+impl Display for Hex<'_> {
+    fn fmt(&self, f: &mut fmt::Formatter) -> fmt::Result {
+        for (at, byte) in self.0.iter().enumerate() {
+            write!(f, "{}{byte:02X}", if at == 0 { "" } else { " " })?;
+        }
+        Ok(())
+    }
 }

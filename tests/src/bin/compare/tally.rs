@@ -6,6 +6,7 @@ use checker_tests::bodies::Bodies;
 use checker_tests::reference::{Checked, Refusal};
 use checker_tests::tables::{Body, Call, Kind, Reason, Way};
 
+use crate::names::Names;
 use crate::rows::Rows;
 
 /// The answers of one call: accepted, yes or 1; no or 0; the refusals by number; and those for a
@@ -26,7 +27,7 @@ pub struct Tally {
     /// Accepted submissions by way and by kind of guess.
     accepted: [[u64; Kind::ALL.len()]; Way::ALL.len()],
     pub rows: Rows,
-    pub wrong_guesses: u64,
+    pub names: Names,
     /// Submissions written again from their own bodies.
     pub rewritten: u64,
 }
@@ -78,8 +79,9 @@ impl Tally {
         }
         println!();
         self.rows.print();
-        println!("\nwrong guesses that signalled 0: {}", self.wrong_guesses);
-        println!("submissions written again from their bodies: {}", self.rewritten);
+        println!();
+        self.names.print();
+        println!("\nsubmissions written again from their bodies: {}", self.rewritten);
     }
 
     /// A row with one cell for each call.
@@ -89,8 +91,8 @@ impl Tally {
     }
 
     /// Fails where one of a call's refusals, a count at one of the places, an acceptance, a way, a
-    /// kind of guess, or a row of the tables of kinds and rules was never reached, or where no
-    /// submission was written again.
+    /// kind of guess, a row of the tables of kinds and rules, or a row of names was never reached, or
+    /// where no submission was written again.
     pub fn complete(&self) -> Result<(), String> {
         let mut missing: Vec<String> = Call::ALL
             .into_iter()
@@ -107,6 +109,7 @@ impl Tally {
             }
         }
         missing.extend(self.rows.missing());
+        missing.extend(self.names.missing());
         if self.rewritten == 0 {
             missing.push("a submission written again".to_string());
         }

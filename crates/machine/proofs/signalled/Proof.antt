@@ -1,19 +1,16 @@
--- `executed` meets its contract: the first i instructions are executed.
+-- `signalled` meets its contract: the first i instructions are executed.
 use borrow.Author.Needs.{needs}
 use Prim.Native.Nat.{_-_, _≤_}
 use Rattle.machine.specs.Code.{Running}
-use Rattle.machine.proofs.theory.RunAnswer.{running-none, running-more, running-all, instruction-executable}
-use Rattle.machine.proofs.executed.Statement.{statement}
-use Rattle.machine.proofs.executed.Tie as tie
+use Rattle.machine.proofs.theory.RunAnswer.{running-none, running-more, running-all, instruction-executable, test-ready, signal-ran}
+use Rattle.machine.proofs.signalled.Statement.{statement}
+use Rattle.machine.proofs.signalled.Tie as tie
 
 abbrev Inv-loop : tie.InvT-loop
-Inv-loop s name program m₀ n i₀ m i = (i ≤ n) × Running s name program i m
+Inv-loop s name program relation m₀ n i₀ m i = (i ≤ n) × Running s name program i m
 
 abbrev μ-loop : tie.MeasureT-loop
-μ-loop s name program m₀ n i₀ m i = n - i
-
-initial-requires : tie.Need-initial-requires Inv-loop μ-loop
-initial-requires c κs = search needs
+μ-loop s name program relation m₀ n i₀ m i = n - i
 
 byte-requires : tie.Need-byte-requires Inv-loop μ-loop
 byte-requires c κs = search needs
@@ -36,16 +33,18 @@ loop-less c = search needs
 loop-again : tie.Need-loop-again Inv-loop μ-loop
 loop-again c = (search needs, search running-more)
 
-returns : tie.Need-returns Inv-loop μ-loop
-returns c = search running-all
+signal-requires : tie.Need-signal-requires Inv-loop μ-loop
+signal-requires c κs = (search test-ready, search needs)
 
-pub executed-spec : {M : Type 1} → statement M
-executed-spec =
+returns : tie.Need-returns Inv-loop μ-loop
+returns c = search (signal-ran, running-all)
+
+pub signalled-spec : {M : Type 1} → statement M
+signalled-spec =
     tie.close
     (tie.spec
     Inv-loop
     μ-loop
-    initial-requires
     byte-requires
     loop-holds
     instruction-at-requires
@@ -53,4 +52,5 @@ executed-spec =
     add-i
     loop-less
     loop-again
+    signal-requires
     returns)
