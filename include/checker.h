@@ -21,8 +21,9 @@
    Guesses. With the program of an accepted submission, run signals 1 for the name of the submission's own guess and 0 for the name of
    every wrong guess. The atom meant by a name is the one of the guess's kind. A name is that of a wrong guess where it is not the
    guess's own, and neither its atom nor, for a key, the atom's inverse is part of a message in the knowledge: the message itself or
-   anything that it is made from at any depth, keys included. So a name that no listed atom has is always that of a wrong guess. Of all
-   other names nothing is promised. */
+   anything that it is made from at any depth, keys included. So a name that no listed atom has is always that of a wrong guess. The
+   remaining names are stale, and run refuses them with 15: every name that it takes, other than the guess's own, is that of a wrong guess.
+   A 15 says nothing about the protocol; another name will do. The guess's own name is taken also where it is part of the knowledge. */
 #ifndef CHECKER_H
 #define CHECKER_H
 
@@ -42,7 +43,8 @@ uint32_t checker_check(const uint8_t *sub, size_t sub_len, uint8_t *page, size_t
 uint32_t checker_deducible(const uint8_t *sub, size_t sub_len, uint8_t term);
 
 /* The signal, 1 or 0, of a register program over the submission's knowledge and a guess of this name. After an acceptance the program is
-   exactly the first 3N+4 bytes of the page: any other length is refused with 13. A refusal is 1 to 5 or 13. */
+   exactly the first 3N+4 bytes of the page: any other length is refused with 13. A stale name is refused with 15, which is tried last (see
+   Guesses). A refusal is 1 to 5, 13 or 15. */
 uint32_t checker_run(const uint8_t *sub, size_t sub_len, uint16_t name, const uint8_t *program, size_t program_len);
 
 /* Writes the submission of four bodies, as an intake form holds them, to the page: contents first, then the terms, the knowledge, the

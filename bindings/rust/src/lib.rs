@@ -59,8 +59,8 @@ pub fn deducible(submission: &[u8], term: u8) -> Result<bool, Refusal> {
 /// The signal of a register program over the submission's knowledge and a guess of this name.
 ///
 /// The program that [`check`] gave signals true with the name of the submission's own guess, and
-/// false with that of every wrong guess; `include/checker.h` says which names these are. A refusal
-/// is 1 to 5 or 13.
+/// false with that of every wrong guess; `include/checker.h` says which names these are. The others
+/// are stale, and refused with 15, which is tried last. A refusal is 1 to 5, 13 or 15.
 pub fn run(submission: &[u8], name: u16, program: &[u8]) -> Result<bool, Refusal> {
     Ok(decoded(raw::run(submission, name, program))? == 1)
 }

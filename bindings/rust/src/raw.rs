@@ -42,7 +42,7 @@ pub fn deducible(submission: &[u8], term: u8) -> u32 {
     unsafe { checker_deducible(submission.as_ptr(), submission.len(), term) }
 }
 
-/// The signal of a program with this name for the guess: 1 or 0, or a refusal, 1 to 5 or 13.
+/// The signal of a program with this name for the guess: 1 or 0, or a refusal, 1 to 5, 13 or 15.
 pub fn run(submission: &[u8], name: u16, program: &[u8]) -> u32 {
     // SAFETY: each buffer is passed with its own length and only read.
     unsafe {

@@ -72,7 +72,7 @@ pub enum Parts {
     Both { x: u8, y: u8 },
 }
 
-pub fn parts_of(s: &[u8], t: u8) -> Parts
+fn parts_of(s: &[u8], t: u8) -> Parts
     requires { ⌜ TableRead (now s) ⌝ }
     requires { ⌜ t < terms (now s) ⌝ }
     ensures { λ r. ⌜ r ≡ partsOf (recordAt (now (s .entry)) t) ⌝ }

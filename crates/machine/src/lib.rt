@@ -407,12 +407,13 @@ fn mark_parts<'a>(
     lefts: &'a [u16; 384],
     rights: &'a [u16; 384],
     marks: &mut [u8; 256],
-    t: u8,
+    t: u16,
 )
+    requires { ⌜ t < 256 ⌝ }
     requires { ⌜ Below 256 (recordsIn (now heads) (now lefts) (now rights) t) ⌝ }
     ensures { λ _. ⌜ now (marks .exit) ≡ treated (recordsIn (now (heads .entry)) (now (lefts .entry)) (now (rights .entry))) t (now (marks .entry)) ⌝ }
 {
-    let i = base::wide(t);
+    let i = index(t);
     if marks[i] != 1 {
         return;
     }
@@ -425,22 +426,23 @@ fn mark_parts<'a>(
     marks[y] = 1;
 }
 
-// 1 at each term that is part of the knowledge. It goes from the last term down: parts are earlier terms, so one look at each is enough,
-// however many messages share it.
+// 1 at each term from `last` on that is part of the knowledge. It goes from the last term down: parts are earlier terms, so one look at each is
+// enough, however many messages share it, and what comes before `last` has nothing to do with it.
 fn known_parts<'a>(
     s: &[u8],
     heads: &'a [u8; 384],
     lefts: &'a [u16; 384],
     rights: &'a [u16; 384],
+    last: u16,
 ) -> [u8; 256]
     requires { ⌜ TableRead (now s) ⌝ }
     requires { ⌜ TermNodes (now s) (now heads) (now lefts) (now rights) ⌝ }
-    ensures { λ r. ⌜ PartMarks (now (s .entry)) r ⌝ }
+    ensures { λ r. ⌜ PartMarks (now (s .entry)) last r ⌝ }
 {
     let known = deduction::knowledge_marks(s);
     let mut marks = known.state;
-    let mut i = submission::terms(s);
-    while 0 < i {
+    let mut i = base::wide16(submission::terms(s));
+    while last < i {
         i -= 1;
         mark_parts(heads, lefts, rights, &mut marks, i);
     }
@@ -461,7 +463,27 @@ fn is_marked(marks: &[u8; 256], found: Found) -> bool
     false
 }
 
-// Whether one of these terms is part of the knowledge.
+// The number of a found node, or n.
+fn number_of(found: Found, n: u16) -> u16
+    ensures { λ r. ⌜ r ≡ numberOf found n ⌝ }
+{
+    match found {
+        Found::At(k) => k,
+        Found::Nothing => n,
+    }
+}
+
+// The lower of two numbers.
+fn lower_of(a: u16, b: u16) -> u16
+    ensures { λ r. ⌜ (r ≤ a) × (r ≤ b) ⌝ }
+{
+    if a < b {
+        return a;
+    }
+    b
+}
+
+// Whether one of these two of n terms is part of the knowledge.
 fn is_known_part<'a>(
     s: &[u8],
     heads: &'a [u8; 384],
@@ -469,12 +491,14 @@ fn is_known_part<'a>(
     rights: &'a [u16; 384],
     found: Found,
     other: Found,
+    n: u16,
 ) -> bool
     requires { ⌜ TableRead (now s) ⌝ }
     requires { ⌜ TermNodes (now s) (now heads) (now lefts) (now rights) ⌝ }
-    ensures { λ r. ⌜ SomeMarked (now (s .entry)) found other r ⌝ }
+    ensures { λ r. ⌜ SomeMarked (now (s .entry)) n found other r ⌝ }
 {
-    let marks = known_parts(s, heads, lefts, rights);
+    let last = lower_of(number_of(found, n), number_of(other, n));
+    let marks = known_parts(s, heads, lefts, rights, last);
     if is_marked(&marks, found) {
         return true;
     }
@@ -552,27 +576,17 @@ fn is_stale<'a>(
     }
     let other = find_inverse(heads, lefts, rights, v, found, n);
     if is_at(found) {
-        return is_known_part(s, heads, lefts, rights, found, other);
+        return is_known_part(s, heads, lefts, rights, found, other, n);
     }
     if is_at(other) {
-        return is_known_part(s, heads, lefts, rights, found, other);
+        return is_known_part(s, heads, lefts, rights, found, other, n);
     }
     false
 }
 
 // ---- The signal.
 
-// The number of the guess's node: that of the term that it is, or the next one, n.
-fn number_of(found: Found, n: u16) -> u16
-    ensures { λ r. ⌜ r ≡ numberOf found n ⌝ }
-{
-    match found {
-        Found::At(k) => k,
-        Found::Nothing => n,
-    }
-}
-
-// How many nodes there are with it.
+// How many nodes there are with the guess's, which was found among the n terms or not.
 fn nodes_with(found: Found, n: u16) -> u16
     requires { ⌜ n < 384 ⌝ }
     ensures { λ r. ⌜ r ≡ nodesWith found n ⌝ }

@@ -2,22 +2,25 @@
 use Prim.Native.Nat.{_≤_}
 use native.Mathlib.Omega.{arith}
 use Rattle.submission.specs.Record.{terms}
-use Rattle.machine.proofs.theory.MarkedParts.{PartsFrom, parts-none, parts-fit, parts-more, parts-all}
+use Rattle.machine.proofs.theory.MarkedParts.{PartsFrom, parts-none, parts-fit, term-fits, parts-more, parts-all}
 use borrow.Author.Needs.{needs}
 use Rattle.machine.proofs.known_parts.Statement.{statement}
 use Rattle.machine.proofs.known_parts.Tie as tie
 
 abbrev Inv-loop : tie.InvT-loop
-Inv-loop s heads lefts rights marks₀ i₀ marks i = (i ≤ terms s) × PartsFrom s i marks
+Inv-loop s heads lefts rights last marks₀ i₀ marks i = (i ≤ terms s) × PartsFrom s i marks
 
 abbrev μ-loop : tie.MeasureT-loop
-μ-loop s heads lefts rights marks₀ i₀ marks i = i
+μ-loop s heads lefts rights last marks₀ i₀ marks i = i
 
 knowledge-marks-requires : tie.Need-knowledge-marks-requires Inv-loop μ-loop
 knowledge-marks-requires c κs = search needs
 
 terms-requires : tie.Need-terms-requires Inv-loop μ-loop
 terms-requires c κs = search needs
+
+wide16-requires : tie.Need-wide16-requires Inv-loop μ-loop
+wide16-requires c κs = search needs
 
 loop-holds : tie.Need-loop-holds Inv-loop μ-loop
 loop-holds c = (omega arith, search (parts-none, needs))
@@ -26,7 +29,7 @@ sub-i : tie.Need-sub-i Inv-loop μ-loop
 sub-i c = search needs
 
 mark-parts-requires : tie.Need-mark-parts-requires Inv-loop μ-loop
-mark-parts-requires c κs = search (parts-fit, needs)
+mark-parts-requires c κs = (search (term-fits, needs), search (parts-fit, needs))
 
 loop-less : tie.Need-loop-less Inv-loop μ-loop
 loop-less c = search needs
@@ -45,6 +48,7 @@ known-parts-spec =
     μ-loop
     knowledge-marks-requires
     terms-requires
+    wide16-requires
     loop-holds
     sub-i
     mark-parts-requires

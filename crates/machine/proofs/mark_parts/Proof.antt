@@ -4,8 +4,8 @@ use borrow.Author.Needs.{needs}
 use Rattle.machine.proofs.mark_parts.Statement.{statement}
 use Rattle.machine.proofs.mark_parts.Tie as tie
 
-wide-requires : tie.Need-wide-requires
-wide-requires c κs = search needs
+index-requires : tie.Need-index-requires
+index-requires c κs = search needs
 
 element-copy-out-if1 : tie.Need-element-copy-out-if1
 element-copy-out-if1 c = search needs
@@ -25,8 +25,8 @@ mul-index c = search needs
 element-copy-out-index : tie.Need-element-copy-out-index
 element-copy-out-index c = search needs
 
-index-requires : tie.Need-index-requires
-index-requires c κs = search needs
+index-requires-2 : tie.Need-index-requires-2
+index-requires-2 c κs = search needs
 
 mul-index-2 : tie.Need-mul-index-2
 mul-index-2 c = search needs
@@ -34,14 +34,14 @@ mul-index-2 c = search needs
 element-copy-out-index-2 : tie.Need-element-copy-out-index-2
 element-copy-out-index-2 c = search needs
 
-index-requires-2 : tie.Need-index-requires-2
-index-requires-2 c κs = search needs
+index-requires-3 : tie.Need-index-requires-3
+index-requires-3 c κs = search needs
 
 element-write-marks : tie.Need-element-write-marks
 element-write-marks c = search (left-marks, needs)
 
 element-write-marks-2 : tie.Need-element-write-marks-2
-element-write-marks-2 c = search (right-marks, needs)
+element-write-marks-2 c = search (right-marks, left-marks)
 
 returns-3 : tie.Need-returns-3
 returns-3 c = search (treated-parts, needs)
@@ -50,17 +50,17 @@ pub mark-parts-spec : {M : Type 1} → statement M
 mark-parts-spec =
     tie.close
     (tie.spec
-    wide-requires
+    index-requires
     element-copy-out-if1
     returns
     element-copy-out-if2
     returns-2
     mul-index
     element-copy-out-index
-    index-requires
+    index-requires-2
     mul-index-2
     element-copy-out-index-2
-    index-requires-2
+    index-requires-3
     element-write-marks
     element-write-marks-2
     returns-3)

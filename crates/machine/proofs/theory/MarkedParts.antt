@@ -10,6 +10,7 @@ use lib.Dec.{eqb, ltb}
 use lib.ListN.{length, getD, set, length-set}
 use borrow.Author.Tests.{eq-eqb, ne-eqb, eqb-true, eqb-false, lt-ltb, le-ltb}
 use Rattle.base.proofs.Says.{true-or-false}
+use Rattle.base.proofs.Order.{lt-or-ge}
 use Rattle.term.specs.{Term.Term, Term.atomKind, Term.Part, Term.Rec, Term.leaf, Term.branch, Term.node, Term.message, Number.shapeOf, Number.headOf}
 use Rattle.term.specs.Code.{Below}
 use Rattle.term.proofs.Reduce.{part-self}
@@ -77,11 +78,11 @@ pub record PartsFrom (s : List ℕ) (i : ℕ) (l : List ℕ) : Type 0 where
   pub known : (n : ℕ) → n < terms s → getD l n 0 ≡ 1 → KnownPart s (term s n)
   pub closed : (k : ℕ) → i ≤ k → k < terms s → getD l k 0 ≡ 1 → OfParts (λ n. getD l n 0 ≡ 1) (recordAt s k)
 
-pub parts-none : {s l : List ℕ} {n : ℕ} → TableRead s → length l ≡ 256 → SameMarks s (marksOf l) (entryMarks s) → n ≡ terms s → PartsFrom s n l
-parts-none {s} {l} w q m e = record {
+pub parts-none : {s l : List ℕ} {u n : ℕ} → TableRead s → length l ≡ 256 → SameMarks s (marksOf l) (entryMarks s) → u ≡ terms s → n ≡ u → PartsFrom s n l
+parts-none {s} {l} w q m e f = record {
   long = q;
   holds = λ r b. let c = facts w .entry-below r b in says-mark l _ .0 (m .same _ c ∙ says-entry s _ c .1 (r, b, refl));
-  known = λ n b x. let (r, c, f) = says-entry s n b .0 (sym (m .same n b) ∙ says-mark l n .1 x) in (term s n, (r, c, ap (term s) (sym f)), part-self (term s n));
+  known = λ n b x. let (r, c, g) = says-entry s n b .0 (sym (m .same n b) ∙ says-mark l n .1 x) in (term s n, (r, c, ap (term s) (sym g)), part-self (term s n));
   closed = λ k a b x. absurd (omega arith);
 }
 
@@ -146,24 +147,37 @@ module _ {s hs ls rs : List ℕ} (w : TableRead s) (z : TermNodes s hs ls rs) wh
   term-record : (k : ℕ) → k < terms s → recordsIn hs ls rs k ≡ recordAt s k
   term-record k b = ap recordFor (z .is k b) ∙ record-node (recordAt s k)
 
-  pub parts-fit : {i j : ℕ} → 0 < i → i ≤ terms s → j ≡ i - 1 → Below 256 (recordsIn hs ls rs j)
-  parts-fit {i} {j} a c e = let b : j < terms s = omega arith in subst (Below 256) (sym (term-record j b)) (go (recordAt s j) (facts w .table .earlier j b))
+  pub parts-fit : {last i j : ℕ} → last < i → i ≤ terms s → j ≡ i - 1 → Below 256 (recordsIn hs ls rs j)
+  parts-fit {last} {i} {j} a c e = let b : j < terms s = omega arith in subst (Below 256) (sym (term-record j b)) (go (recordAt s j) (facts w .table .earlier j b))
     where
       go : (r : Rec) → Below j r → Below 256 r
       go (leaf κ n) d = tt
       go (branch h x y) d = (omega (arith, c, e, d .0, facts w .terms-most), omega (arith, c, e, d .1, facts w .terms-most))
 
-  pub parts-more : {l l′ : List ℕ} {i j : ℕ} → PartsFrom s i l → 0 < i → i ≤ terms s → j ≡ i - 1 → l′ ≡ treated (recordsIn hs ls rs) j l → PartsFrom s j l′
-  parts-more {l} {l′} {i} {j} p a b e f = rw f (go (true-or-false (eqb (getD l j 0) 1)))
+  pub parts-more : {l l′ : List ℕ} {last i j : ℕ} → PartsFrom s i l → last < i → i ≤ terms s → j ≡ i - 1 → l′ ≡ treated (recordsIn hs ls rs) j l → PartsFrom s j l′
+  parts-more {l} {l′} {last} {i} {j} p a b e f = rw f (go (true-or-false (eqb (getD l j 0) 1)))
     where
       go : (eqb (getD l j 0) 1 ≡ true) ⊎ (eqb (getD l j 0) 1 ≡ false) → PartsFrom s j (treated (recordsIn hs ls rs) j l)
       go (inl t) = rw t (parts-both w p (omega arith) (omega arith) (recordsIn hs ls rs j) (sym (term-record j (omega arith))) (eqb-true _ 1 t))
       go (inr t) = rw t (parts-same w p (omega arith) (omega arith) (λ m. absurd (eqb-false _ 1 t m)))
 
-pub parts-all : {s l : List ℕ} {i : ℕ} → TableRead s → PartsFrom s i l → i ≤ 0 → PartMarks s l
-parts-all {s} {l} {i} w p z = record {
-  long = p .long;
-  known = p .known;
-  whole = λ x (t, (r, b, e), q).
-      part-listed (facts w .table) (λ n. getD l n 0 ≡ 1) (λ n c m. p .closed n (omega arith) c m) x (entryAt s r) (facts w .entry-below r b) (p .holds r b) (subst (Part x) e q);
-}
+pub term-fits : {s : List ℕ} {last i j : ℕ} → TableRead s → last < i → i ≤ terms s → j ≡ i - 1 → j < 256
+term-fits w a b e = omega (arith, facts w .terms-most)
+
+pub parts-all : {s l : List ℕ} {last i : ℕ} → TableRead s → PartsFrom s i l → i ≤ last → PartMarks s last l
+parts-all {s} {l} {last} {i} w p z = record { long = p .long; known = p .known; whole = marked-from }
+  where
+    -- a term before the last one of interest, or a marked one: so are its parts
+    goes-on : (k : ℕ) → k < terms s → (k < last) ⊎ (getD l k 0 ≡ 1) → OfParts (λ n. (n < last) ⊎ (getD l n 0 ≡ 1)) (recordAt s k)
+    goes-on k b m = go (recordAt s k) (facts w .table .earlier k b) (lt-or-ge k last) (λ c x. p .closed k (omega arith) b x)
+      where
+        go : (r : Rec) → Below k r → (k < last) ⊎ (last ≤ k) → (last ≤ k → getD l k 0 ≡ 1 → OfParts (λ n. getD l n 0 ≡ 1) r) → OfParts (λ n. (n < last) ⊎ (getD l n 0 ≡ 1)) r
+        go (leaf κ n) d c f = tt
+        go (branch h x y) d (inl c) f = (inl (omega (arith, d .0)), inl (omega (arith, d .1)))
+        go (branch h x y) d (inr c) f = let o = f c (⊎-elim (λ a. absurd (omega arith)) (λ a. a) m) in (inr (o .0), inr (o .1))
+
+    marked-from : (n : ℕ) → n < terms s → last ≤ n → KnownPart s (term s n) → getD l n 0 ≡ 1
+    marked-from n b c (t, (r, d, e), q) =
+        let (k, a, (m, f)) = part-listed (facts w .table) (λ n. (n < last) ⊎ (getD l n 0 ≡ 1)) goes-on (term s n) (entryAt s r) (facts w .entry-below r d) (inr (p .holds r d)) (subst (Part (term s n)) e q) in
+        let g : k ≡ n = facts w .same-number k n a b (sym f) in
+        ⊎-elim (λ x. absurd (omega arith)) (λ x. rw g at x) m

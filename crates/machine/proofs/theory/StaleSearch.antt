@@ -24,7 +24,7 @@ use Rattle.machine.specs.declared.Found.{Found}
 use Rattle.machine.specs.declared.Found.the-variants.{At, Nothing}
 use Rattle.machine.specs.Run.{StaleName}
 use Rattle.machine.specs.Computed.{isStaleName}
-use Rattle.machine.specs.Code.{atomHead, recordFor, nodeFor, nodeOf, isNodeFrom, foundOf, guessNode, inverseHead, inverseNode, numberIn, isAt, TermNodes, PartMarks, isMarked, SomeMarked}
+use Rattle.machine.specs.Code.{atomHead, recordFor, nodeFor, nodeOf, isNodeFrom, foundOf, guessNode, inverseHead, inverseNode, numberIn, isAt, TermNodes, PartMarks, isMarked, numberOf, SomeMarked}
 use Rattle.machine.proofs.theory.NodeRecords.{atom-record, record-node}
 use Rattle.machine.proofs.theory.NodeSearch.{found-at, found-nothing, says-same, same-node}
 use Rattle.machine.proofs.theory.StartState.{facts, atomNode, guess-atom}
@@ -41,12 +41,12 @@ module _ (l : List ℕ) {o : Found} where
   pub marked-beyond : {k i : ℕ} → length l ≡ 256 → o ≡ At k → i ≡ k → 256 ≤ i → false ≡ isMarked l o
   marked-beyond {k} {i} c e f b = let z : getD l k 0 ≡ 0 = List·getD-eq-default l 0 (omega arith) in rw (e, z)
 
-module _ {s l : List ℕ} (p : PartMarks s l) {found other : Found} {b : Bool} (e : b ≡ isMarked l found) where
-  pub first-marked : b ≡ true → SomeMarked s found other true
-  first-marked t = record { marks = l; parts = p; is = rw (← e, t) }
+module _ {s l : List ℕ} {last : ℕ} (p : PartMarks s last l) {found other : Found} {b : Bool} (e : b ≡ isMarked l found) (n : ℕ) {i j : ℕ} (f : i ≡ numberOf found n) (g : j ≡ numberOf other n) (low : (last ≤ i) × (last ≤ j)) where
+  pub first-marked : b ≡ true → SomeMarked s n found other true
+  first-marked t = record { marks = l; last = last; parts = p; first = rw (← f) (low .0); second = rw (← g) (low .1); is = rw (← e, t) }
 
-  pub second-marked : {r : Bool} → b ≡ false → r ≡ isMarked l other → SomeMarked s found other r
-  second-marked t f = record { marks = l; parts = p; is = rw (← e, t, f) }
+  pub second-marked : {r : Bool} → b ≡ false → r ≡ isMarked l other → SomeMarked s n found other r
+  second-marked t h = record { marks = l; last = last; parts = p; first = rw (← f) (low .0); second = rw (← g) (low .1); is = rw (← e, t, h) }
 
 -- ---- the returns of `inverse_head` and `find_inverse`
 module _ (h : ℕ) where
@@ -91,17 +91,17 @@ module _ {s hs ls rs : List ℕ} (w : SubmissionRead s) (z : TermNodes s hs ls r
     at-none : o ≡ Nothing → (k : ℕ) → k < terms s → term s k ≡ atom κ name → ⊥
     at-none h k b f = true≢false (sym (says-node k b .1 f) ∙ first-none (isNodeFrom hs ls rs (atomNode κ name) 0) n (found-nothing _ (sym e ∙ h)) k (omega arith))
 
-    says-found : {l : List ℕ} → PartMarks s l → Says (isMarked l o) (KnownPart s (atom κ name))
-    says-found {l} p = go o refl
+    says-found : {last : ℕ} {l : List ℕ} → PartMarks s last l → last ≤ numberOf o n → Says (isMarked l o) (KnownPart s (atom κ name))
+    says-found {last} {l} p low = go o refl low
       where
-        go : (x : Found) → o ≡ x → Says (isMarked l x) (KnownPart s (atom κ name))
-        go (At k) h =
+        go : (x : Found) → o ≡ x → last ≤ numberOf x n → Says (isMarked l x) (KnownPart s (atom κ name))
+        go (At k) h low =
             let (b, f) = at-term k h in
             Iff·trans (says-eqb (getD l k 0) 1) (
               λ m. subst (KnownPart s) f (p .known k b m),
-              λ q. let (j, a, (m, g)) = p .whole _ q in let i : j ≡ k = facts w .read .same-number j k a b (sym g ∙ sym f) in rw i at m,
+              λ q. p .whole k b low (subst (KnownPart s) (sym f) q),
             )
-        go Nothing h = (λ t. absurd (false≢true t), λ q. let (j, a, (m, g)) = p .whole _ q in absurd (at-none h j a (sym g)))
+        go Nothing h low = (λ t. absurd (false≢true t), λ q. let (j, a, g) = listed-part (facts w .read) q in absurd (at-none h j a (sym g)))
 
     -- an atom that is not listed is part of nothing
     unlisted : isAt o ≡ false → KnownPart s (atom κ name) → ⊥
@@ -158,9 +158,9 @@ module _ {s : List ℕ} (v : Node) (w : SubmissionRead s) {b : ClaimBytes} {g : 
         other-name : v .left ≡ nameAt s (guess s) → ⊥
         other-name h = d (own-is ∙ sym h)
 
-    pub stale-marked : {r : Bool} → SomeMarked s found other r → r ≡ isStaleName s (v .left)
+    pub stale-marked : {r : Bool} → SomeMarked s n found other r → r ≡ isStaleName s (v .left)
     stale-marked p =
-        p .is ∙ same-test _ _ (Iff·trans (says-or _ _ (says-found w z κ (v .left) c found-is (p .parts)) (says-found w z (otherKind κ) (v .left) c other-is (p .parts))) stale-iff) (says-stale-name s (v .left))
+        p .is ∙ same-test _ _ (Iff·trans (says-or _ _ (says-found w z κ (v .left) c found-is (p .parts) (p .first)) (says-found w z (otherKind κ) (v .left) c other-is (p .parts) (p .second))) stale-iff) (says-stale-name s (v .left))
 
     pub stale-unlisted : {i j : Bool} → i ≡ isAt found → j ≡ isAt other → i ≡ false → j ≡ false → false ≡ isStaleName s (v .left)
     stale-unlisted h k t u = sym (denies _ (says-stale-name s (v .left)) .1 (λ a.
