@@ -14,14 +14,6 @@ true-any s l t = sym (passed-any s l t)
 pub false-any : {p : ℕ → Bool} {n i : ℕ} → Passed p n i → n ≤ i → false ≡ any p n
 false-any s l = sym (passed-not-any s l)
 
--- a scan up to a count that was read
-module _ {p : ℕ → Bool} {n i N : ℕ} (v : Passed p n i) (c : n ≡ N) where
-  pub some-counted : i < n → p i ≡ true → true ≡ any p N
-  some-counted l t = rw (← c) (true-any v l t)
-
-  pub none-counted : n ≤ i → false ≡ any p N
-  none-counted l = rw (← c) (false-any v l)
-
 pub ruleset scan = (passed-none, passed-more, true-any, false-any, or-left, or-right, or-neither, and-both, and-left, and-right, not-of-true, not-of-false, eq-eqb, ne-eqb, le-leb, lt-leb, lt-ltb, le-ltb, flag, needs)
 
 pub ruleset cases = (picked-then, picked-else, or-left, or-right, or-neither, and-both, and-left, and-right, not-of-true, not-of-false, eq-eqb, ne-eqb, le-leb, lt-leb, lt-ltb, le-ltb, flag, needs)

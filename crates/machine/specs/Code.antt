@@ -210,11 +210,11 @@ withParts (branch h x y) l = set (set l x 1) y 1
 abbrev pub treated : (ℕ → Rec) → ℕ → List ℕ → List ℕ
 treated rec t l = cond (eqb (getD l t 0) 1) (withParts (rec t) l) l
 
--- of the terms from `last` on, l marks those that are part of the knowledge
-pub record PartMarks (s : List ℕ) (last : ℕ) (l : List ℕ) : Type 0 where
+-- of the terms from `lowest` on, l marks those that are part of the knowledge
+pub record PartMarks (s : List ℕ) (lowest : ℕ) (l : List ℕ) : Type 0 where
   pub long : length l ≡ 256
   pub known : (n : ℕ) → n < terms s → getD l n 0 ≡ 1 → KnownPart s (term s n)
-  pub whole : (n : ℕ) → n < terms s → last ≤ n → KnownPart s (term s n) → getD l n 0 ≡ 1
+  pub whole : (n : ℕ) → n < terms s → lowest ≤ n → KnownPart s (term s n) → getD l n 0 ≡ 1
 
 abbrev pub isMarked : List ℕ → Found → Bool
 isMarked l (At k) = eqb (getD l k 0) 1
@@ -228,10 +228,10 @@ numberOf Nothing n = n
 -- one of the two is marked, by marks of what is part of the knowledge
 pub record SomeMarked (s : List ℕ) (n : ℕ) (found other : Found) (r : Bool) : Type 0 where
   pub marks : List ℕ
-  pub last : ℕ
-  pub parts : PartMarks s last marks
-  pub first : last ≤ numberOf found n
-  pub second : last ≤ numberOf other n
+  pub lowest : ℕ
+  pub parts : PartMarks s lowest marks
+  pub first : lowest ≤ numberOf found n
+  pub second : lowest ≤ numberOf other n
   pub is : r ≡ (isMarked marks found || isMarked marks other)
 
 -- how many nodes there are with the guess's, which was found among n terms or not

@@ -426,23 +426,23 @@ fn mark_parts<'a>(
     marks[y] = 1;
 }
 
-// 1 at each term from `last` on that is part of the knowledge. It goes from the last term down: parts are earlier terms, so one look at each is
-// enough, however many messages share it, and what comes before `last` has nothing to do with it.
+// 1 at each term from `lowest` on that is part of the knowledge. It goes from the last term down: parts are earlier terms, so one look at each is
+// enough, however many messages share it, and no term before `lowest` has one from there on as a part.
 fn known_parts<'a>(
     s: &[u8],
     heads: &'a [u8; 384],
     lefts: &'a [u16; 384],
     rights: &'a [u16; 384],
-    last: u16,
+    lowest: u16,
 ) -> [u8; 256]
     requires { ⌜ TableRead (now s) ⌝ }
     requires { ⌜ TermNodes (now s) (now heads) (now lefts) (now rights) ⌝ }
-    ensures { λ r. ⌜ PartMarks (now (s .entry)) last r ⌝ }
+    ensures { λ r. ⌜ PartMarks (now (s .entry)) lowest r ⌝ }
 {
     let known = deduction::knowledge_marks(s);
     let mut marks = known.state;
     let mut i = base::wide16(submission::terms(s));
-    while last < i {
+    while lowest < i {
         i -= 1;
         mark_parts(heads, lefts, rights, &mut marks, i);
     }
@@ -497,8 +497,8 @@ fn is_known_part<'a>(
     requires { ⌜ TermNodes (now s) (now heads) (now lefts) (now rights) ⌝ }
     ensures { λ r. ⌜ SomeMarked (now (s .entry)) n found other r ⌝ }
 {
-    let last = lower_of(number_of(found, n), number_of(other, n));
-    let marks = known_parts(s, heads, lefts, rights, last);
+    let lowest = lower_of(number_of(found, n), number_of(other, n));
+    let marks = known_parts(s, heads, lefts, rights, lowest);
     if is_marked(&marks, found) {
         return true;
     }

@@ -152,15 +152,21 @@ fn stale_name(submission: &[u8]) -> u16 {
 }
 
 /// Looks for names in a known pair that holds the same pair twice, and so on down to an atom: one
-/// that is not listed, that of a listed atom which is part of nothing, and that of the atom.
+/// that is not listed, those of the first and of the last listed atom, which are part of nothing, and
+/// that of the atom.
 fn measure_search() {
     let most = Body::Terms.most();
-    let bodies = padded(&shapes::doubling_known(most - 1), most, 0, 0);
+    let bodies = padded(&shapes::doubling_known_beside(most - 1), most, 0, 0);
     let guess = bodies.knowledge.len() as u8;
     let program = shortest(Test::Equal, [guess, guess]);
-    let listed = bodies::name(bodies.terms[most - 1]);
-    for (word, name) in [("unlisted", UNLISTED), ("listed", listed), ("stale", shapes::FRESH)] {
-        let title = format!("doubling pairs known, short program, {word} name");
+    let names = [
+        ("unlisted name", UNLISTED),
+        ("name listed first", shapes::FRESH + 1),
+        ("name listed last", bodies::name(bodies.terms[most - 1])),
+        ("stale name", shapes::FRESH),
+    ];
+    for (word, name) in names {
+        let title = format!("doubling pairs known, short program, {word}");
         measure_name(&title, &bodies.submission(), name, &program);
     }
 }

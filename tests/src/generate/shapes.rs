@@ -219,6 +219,15 @@ pub fn doubling_known(terms: usize) -> Bodies {
     frame.finish()
 }
 
+/// The same, with another atom listed first, which is part of nothing.
+pub fn doubling_known_beside(terms: usize) -> Bodies {
+    let mut frame = Frame::new();
+    frame.atom(Kind::Plain, 1);
+    let last = double(&mut frame, terms);
+    frame.know(vec![last]);
+    frame.finish()
+}
+
 /// The same pairs, of which only the atom is known.
 pub fn doubling_asked(terms: usize) -> Bodies {
     let mut frame = Frame::new();

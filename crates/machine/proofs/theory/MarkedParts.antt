@@ -147,37 +147,37 @@ module _ {s hs ls rs : List ℕ} (w : TableRead s) (z : TermNodes s hs ls rs) wh
   term-record : (k : ℕ) → k < terms s → recordsIn hs ls rs k ≡ recordAt s k
   term-record k b = ap recordFor (z .is k b) ∙ record-node (recordAt s k)
 
-  pub parts-fit : {last i j : ℕ} → last < i → i ≤ terms s → j ≡ i - 1 → Below 256 (recordsIn hs ls rs j)
-  parts-fit {last} {i} {j} a c e = let b : j < terms s = omega arith in subst (Below 256) (sym (term-record j b)) (go (recordAt s j) (facts w .table .earlier j b))
+  pub parts-fit : {lowest i j : ℕ} → lowest < i → i ≤ terms s → j ≡ i - 1 → Below 256 (recordsIn hs ls rs j)
+  parts-fit {lowest} {i} {j} a c e = let b : j < terms s = omega arith in subst (Below 256) (sym (term-record j b)) (go (recordAt s j) (facts w .table .earlier j b))
     where
       go : (r : Rec) → Below j r → Below 256 r
       go (leaf κ n) d = tt
       go (branch h x y) d = (omega (arith, c, e, d .0, facts w .terms-most), omega (arith, c, e, d .1, facts w .terms-most))
 
-  pub parts-more : {l l′ : List ℕ} {last i j : ℕ} → PartsFrom s i l → last < i → i ≤ terms s → j ≡ i - 1 → l′ ≡ treated (recordsIn hs ls rs) j l → PartsFrom s j l′
-  parts-more {l} {l′} {last} {i} {j} p a b e f = rw f (go (true-or-false (eqb (getD l j 0) 1)))
+  pub parts-more : {l l′ : List ℕ} {lowest i j : ℕ} → PartsFrom s i l → lowest < i → i ≤ terms s → j ≡ i - 1 → l′ ≡ treated (recordsIn hs ls rs) j l → PartsFrom s j l′
+  parts-more {l} {l′} {lowest} {i} {j} p a b e f = rw f (go (true-or-false (eqb (getD l j 0) 1)))
     where
       go : (eqb (getD l j 0) 1 ≡ true) ⊎ (eqb (getD l j 0) 1 ≡ false) → PartsFrom s j (treated (recordsIn hs ls rs) j l)
       go (inl t) = rw t (parts-both w p (omega arith) (omega arith) (recordsIn hs ls rs j) (sym (term-record j (omega arith))) (eqb-true _ 1 t))
       go (inr t) = rw t (parts-same w p (omega arith) (omega arith) (λ m. absurd (eqb-false _ 1 t m)))
 
-pub term-fits : {s : List ℕ} {last i j : ℕ} → TableRead s → last < i → i ≤ terms s → j ≡ i - 1 → j < 256
+pub term-fits : {s : List ℕ} {lowest i j : ℕ} → TableRead s → lowest < i → i ≤ terms s → j ≡ i - 1 → j < 256
 term-fits w a b e = omega (arith, facts w .terms-most)
 
-pub parts-all : {s l : List ℕ} {last i : ℕ} → TableRead s → PartsFrom s i l → i ≤ last → PartMarks s last l
-parts-all {s} {l} {last} {i} w p z = record { long = p .long; known = p .known; whole = marked-from }
+pub parts-all : {s l : List ℕ} {lowest i : ℕ} → TableRead s → PartsFrom s i l → i ≤ lowest → PartMarks s lowest l
+parts-all {s} {l} {lowest} {i} w p z = record { long = p .long; known = p .known; whole = marked-from }
   where
-    -- a term before the last one of interest, or a marked one: so are its parts
-    goes-on : (k : ℕ) → k < terms s → (k < last) ⊎ (getD l k 0 ≡ 1) → OfParts (λ n. (n < last) ⊎ (getD l n 0 ≡ 1)) (recordAt s k)
-    goes-on k b m = go (recordAt s k) (facts w .table .earlier k b) (lt-or-ge k last) (λ c x. p .closed k (omega arith) b x)
+    -- a term before the lowest one of interest, or a marked one: so are its parts
+    goes-on : (k : ℕ) → k < terms s → (k < lowest) ⊎ (getD l k 0 ≡ 1) → OfParts (λ n. (n < lowest) ⊎ (getD l n 0 ≡ 1)) (recordAt s k)
+    goes-on k b m = go (recordAt s k) (facts w .table .earlier k b) (lt-or-ge k lowest) (λ c x. p .closed k (omega arith) b x)
       where
-        go : (r : Rec) → Below k r → (k < last) ⊎ (last ≤ k) → (last ≤ k → getD l k 0 ≡ 1 → OfParts (λ n. getD l n 0 ≡ 1) r) → OfParts (λ n. (n < last) ⊎ (getD l n 0 ≡ 1)) r
+        go : (r : Rec) → Below k r → (k < lowest) ⊎ (lowest ≤ k) → (lowest ≤ k → getD l k 0 ≡ 1 → OfParts (λ n. getD l n 0 ≡ 1) r) → OfParts (λ n. (n < lowest) ⊎ (getD l n 0 ≡ 1)) r
         go (leaf κ n) d c f = tt
         go (branch h x y) d (inl c) f = (inl (omega (arith, d .0)), inl (omega (arith, d .1)))
         go (branch h x y) d (inr c) f = let o = f c (⊎-elim (λ a. absurd (omega arith)) (λ a. a) m) in (inr (o .0), inr (o .1))
 
-    marked-from : (n : ℕ) → n < terms s → last ≤ n → KnownPart s (term s n) → getD l n 0 ≡ 1
+    marked-from : (n : ℕ) → n < terms s → lowest ≤ n → KnownPart s (term s n) → getD l n 0 ≡ 1
     marked-from n b c (t, (r, d, e), q) =
-        let (k, a, (m, f)) = part-listed (facts w .table) (λ n. (n < last) ⊎ (getD l n 0 ≡ 1)) goes-on (term s n) (entryAt s r) (facts w .entry-below r d) (inr (p .holds r d)) (subst (Part (term s n)) e q) in
+        let (k, a, (m, f)) = part-listed (facts w .table) (λ n. (n < lowest) ⊎ (getD l n 0 ≡ 1)) goes-on (term s n) (entryAt s r) (facts w .entry-below r d) (inr (p .holds r d)) (subst (Part (term s n)) e q) in
         let g : k ≡ n = facts w .same-number k n a b (sym f) in
         ⊎-elim (λ x. absurd (omega arith)) (λ x. rw g at x) m

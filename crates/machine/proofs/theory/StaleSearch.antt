@@ -41,12 +41,12 @@ module _ (l : List ℕ) {o : Found} where
   pub marked-beyond : {k i : ℕ} → length l ≡ 256 → o ≡ At k → i ≡ k → 256 ≤ i → false ≡ isMarked l o
   marked-beyond {k} {i} c e f b = let z : getD l k 0 ≡ 0 = List·getD-eq-default l 0 (omega arith) in rw (e, z)
 
-module _ {s l : List ℕ} {last : ℕ} (p : PartMarks s last l) {found other : Found} {b : Bool} (e : b ≡ isMarked l found) (n : ℕ) {i j : ℕ} (f : i ≡ numberOf found n) (g : j ≡ numberOf other n) (low : (last ≤ i) × (last ≤ j)) where
+module _ {s l : List ℕ} {lowest : ℕ} (p : PartMarks s lowest l) {found other : Found} {b : Bool} (e : b ≡ isMarked l found) (n : ℕ) {i j : ℕ} (f : i ≡ numberOf found n) (g : j ≡ numberOf other n) (low : (lowest ≤ i) × (lowest ≤ j)) where
   pub first-marked : b ≡ true → SomeMarked s n found other true
-  first-marked t = record { marks = l; last = last; parts = p; first = rw (← f) (low .0); second = rw (← g) (low .1); is = rw (← e, t) }
+  first-marked t = record { marks = l; lowest = lowest; parts = p; first = rw (← f) (low .0); second = rw (← g) (low .1); is = rw (← e, t) }
 
   pub second-marked : {r : Bool} → b ≡ false → r ≡ isMarked l other → SomeMarked s n found other r
-  second-marked t h = record { marks = l; last = last; parts = p; first = rw (← f) (low .0); second = rw (← g) (low .1); is = rw (← e, t, h) }
+  second-marked t h = record { marks = l; lowest = lowest; parts = p; first = rw (← f) (low .0); second = rw (← g) (low .1); is = rw (← e, t, h) }
 
 -- ---- the returns of `inverse_head` and `find_inverse`
 module _ (h : ℕ) where
@@ -91,10 +91,10 @@ module _ {s hs ls rs : List ℕ} (w : SubmissionRead s) (z : TermNodes s hs ls r
     at-none : o ≡ Nothing → (k : ℕ) → k < terms s → term s k ≡ atom κ name → ⊥
     at-none h k b f = true≢false (sym (says-node k b .1 f) ∙ first-none (isNodeFrom hs ls rs (atomNode κ name) 0) n (found-nothing _ (sym e ∙ h)) k (omega arith))
 
-    says-found : {last : ℕ} {l : List ℕ} → PartMarks s last l → last ≤ numberOf o n → Says (isMarked l o) (KnownPart s (atom κ name))
-    says-found {last} {l} p low = go o refl low
+    says-found : {lowest : ℕ} {l : List ℕ} → PartMarks s lowest l → lowest ≤ numberOf o n → Says (isMarked l o) (KnownPart s (atom κ name))
+    says-found {lowest} {l} p low = go o refl low
       where
-        go : (x : Found) → o ≡ x → last ≤ numberOf x n → Says (isMarked l x) (KnownPart s (atom κ name))
+        go : (x : Found) → o ≡ x → lowest ≤ numberOf x n → Says (isMarked l x) (KnownPart s (atom κ name))
         go (At k) h low =
             let (b, f) = at-term k h in
             Iff·trans (says-eqb (getD l k 0) 1) (

@@ -143,9 +143,6 @@ module _ {s : List ℕ} {m : Machine} {t : ℕ} (w : SubmissionRead s) (f : Fill
 knowledge-length : (s : List ℕ) (n : ℕ) → length (knowledge s n) ≡ n
 knowledge-length s n = length-listed (λ i. term s (entryAt s i)) n
 
-pub used-none : {s : List ℕ} {m : Machine} → Loaded s [] m → m .used ≡ 0
-used-none w = w .used
-
 pub knowledge-none : {s : List ℕ} {m : Machine} → Loaded s [] m → Loaded s (knowledge s 0) m
 unfolding grow
 knowledge-none w = w

@@ -1,8 +1,8 @@
 -- `has_bad_instruction` meets its contract: the instructions before i are good.
 use Prim.Native.Nat.{_-_}
-use Rattle.base.proofs.Scan.{scan, some-counted, none-counted}
+use Rattle.base.proofs.Scan.{scan}
 use Rattle.base.proofs.First.{Passed}
-use Rattle.program.proofs.theory.Check13.{badAt, bad-here}
+use Rattle.program.proofs.theory.Check13.{badAt, bad-here, some-bad, none-bad}
 use Rattle.program.proofs.has_bad_instruction.Statement.{statement}
 use Rattle.program.proofs.has_bad_instruction.Tie as tie
 
@@ -37,7 +37,7 @@ is-instruction-bad-requires : tie.Need-is-instruction-bad-requires Inv-loop μ-l
 is-instruction-bad-requires c κs = search scan
 
 returns : tie.Need-returns Inv-loop μ-loop
-returns c = search (some-counted, bad-here)
+returns c = search (some-bad, bad-here)
 
 add-i : tie.Need-add-i Inv-loop μ-loop
 add-i c = search scan
@@ -49,7 +49,7 @@ loop-again : tie.Need-loop-again Inv-loop μ-loop
 loop-again c = search (bad-here, scan)
 
 returns-2 : tie.Need-returns-2 Inv-loop μ-loop
-returns-2 c = search none-counted
+returns-2 c = search none-bad
 
 pub has-bad-instruction-spec : {M : Type 1} → statement M
 has-bad-instruction-spec =

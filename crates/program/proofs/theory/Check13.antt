@@ -11,6 +11,7 @@ use native.Mathlib.Omega.{arith}
 use borrow.Author.Tests.{eq-eqb, ne-eqb, lt-ltb, le-ltb, eqb-true, ltb-false}
 use Rattle.base.specs.Words.{byte}
 use Rattle.base.proofs.First.{Passed}
+use Rattle.base.proofs.Scan.{true-any, false-any}
 use Rattle.base.proofs.Says.{Says, says-true, says-eqb, says-ltb, says-and, says-any, denies, not-not-false, or-false}
 use Rattle.term.specs.Number.{rules, hasOne}
 use Rattle.submission.specs.Record.{entries}
@@ -62,6 +63,14 @@ badAt k P i = badInstruction (k + 1 + i) (instructionAt P i)
 pub bad-here : (k i : ℕ) (P : List ℕ) {u w : ℕ} {b d : Bool} {x : Instruction} →
     u ≡ k → w ≡ i → x ≡ instructionAt P i → b ≡ badInstruction (u + 1 + w) x → b ≡ d → badInstruction (k + 1 + i) (instructionAt P i) ≡ d
 bad-here k i P e f g h t = cc
+
+-- a scan up to a count that was read
+module _ {p : ℕ → Bool} {n i N : ℕ} (v : Passed p n i) (c : n ≡ N) where
+  pub some-bad : i < n → p i ≡ true → true ≡ any p N
+  some-bad l t = rw (← c) (true-any v l t)
+
+  pub none-bad : n ≤ i → false ≡ any p N
+  none-bad l = rw (← c) (false-any v l)
 
 -- ---- a program
 module _ (s P : List ℕ) where

@@ -38,10 +38,10 @@ named-key plain n k = k
 named-key public n k = k
 named-key private n k = k
 
-abbrev pub KindPair : ℕ → ℕ → Type 0
+abbrev KindPair : ℕ → ℕ → Type 0
 KindPair k j = (κ : Kind) × Key κ × (k ≡ kindOf (atomic κ)) × (j ≡ kindOf (atomic (otherKind κ)))
 
-pub says-kinds : (k j : ℕ) → Says (inverseKinds k j) (KindPair k j)
+says-kinds : (k j : ℕ) → Says (inverseKinds k j) (KindPair k j)
 says-kinds k j = (
   λ e. ⊎-elim (λ (a, b). (public, tt, a, b)) (λ (a, b). (private, tt, a, b))
       (says-or _ _ (says-and _ _ (says-eqb k 2) (says-eqb j 3)) (says-and _ _ (says-eqb k 3) (says-eqb j 2)) .0 e),
@@ -195,13 +195,6 @@ listed s b e =
       same-number = decode-inj t;
       entry-below = λ i l. says-ltb _ _ .0 (not-not-false _ .0 (or-false _ _ .0 (bad-entry i l) .0));
     }
-
--- a listed atom, by its record's kind and name
-pub atom-iff : {s : List ℕ} → Listed s → (i : ℕ) (κ : Kind) (n : ℕ) → i < terms s → (term s i ≡ atom κ n) ↔ ((kindAt s i ≡ kindOf (atomic κ)) × (nameAt s i ≡ n))
-atom-iff {s} z i κ n l = (
-  atom-of s (z .bytes) (z .good) (z .table) i κ n l,
-  λ (k, e). term-of-kind s (z .bytes) (z .good) (z .table) i (atomic κ) l k ∙ ap (atom κ) e,
-)
 
 -- a listed compound term, by its record's kind
 pub compound-term : {s : List ℕ} → Listed s → (i : ℕ) (f : Form) → i < terms s → kindAt s i ≡ kindOf (compound f) →

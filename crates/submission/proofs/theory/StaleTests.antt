@@ -12,7 +12,7 @@ use Rattle.submission.proofs.theory.ListedTerms.{Listed}
 use Rattle.submission.specs.Computed.{isKnownPart, isStale}
 use Rattle.submission.specs.Code.{KnownPart}
 
-pub says-known-part : (s : List ℕ) (x : Term) → Says (isKnownPart s x) (KnownPart s x)
+says-known-part : (s : List ℕ) (x : Term) → Says (isKnownPart s x) (KnownPart s x)
 unfolding isKnownPart
 says-known-part s x =
     Iff·trans (says-any {P = λ r. Part x (term s (entryAt s r))} (λ r. isPart x (term s (entryAt s r))) (entries s) (λ r l. says-part x _)) (
