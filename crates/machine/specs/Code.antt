@@ -130,19 +130,29 @@ pub record Room (m : Machine) : Type 0 where
   pub lefts : m .nodes < length (m .lefts)
   pub rights : m .nodes < length (m .rights)
 
--- the state m with the node v in the next register: the node that was found, or a new one
-abbrev pub withValue : Machine → Node → Found → Machine
-withValue m v (At n) = withRegister m n
-withValue m v Nothing = withRegister (withNode m v) (m .nodes)
+-- the number of a found node, or n
+abbrev pub numberOf : Found → ℕ → ℕ
+numberOf (At k) n = k
+numberOf Nothing n = n
+
+-- how many nodes there are with a node that was found among n, or not
+abbrev pub nodesWith : Found → ℕ → ℕ
+nodesWith (At k) n = n
+nodesWith Nothing n = n + 1
+
+-- the state m with the node v after the last one, and the number of v, which was found or not, in the next register. Where it was found, what is put
+-- after the last node is no node
+abbrev pub placed : Machine → Node → Found → Machine
+placed m v o = record { heads = set (m .heads) (m .nodes) (v .head); lefts = set (m .lefts) (m .nodes) (v .left); rights = set (m .rights) (m .nodes) (v .right); nodes = nodesWith o (m .nodes); registers = set (m .registers) (m .used) (numberOf o (m .nodes)); used = m .used + 1 }
 
 -- the node that a term reduces to, or the first from a number on that is v
 abbrev pub valueOf : Machine → Node → ℕ → Found → Found
 valueOf m v from reduced = orFound reduced (foundOf (first (isNodeFrom (m .heads) (m .lefts) (m .rights) v from) (m .nodes)))
 
-pub record Valued (m : Machine) (v : Node) (found : Found) (r : Machine) : Type 0 where
+pub record Placed (m : Machine) (v : Node) (found : Found) (r : Machine) : Type 0 where
   pub room : Room m
   pub space : m .used < length (m .registers)
-  pub is : r ≡ withValue m v found
+  pub is : r ≡ placed m v found
 
 -- r is the state m with the term t in the next register
 pub record Gives (m : Machine) (t : Term) (r : Machine) : Type 0 where
@@ -220,11 +230,6 @@ abbrev pub isMarked : List ℕ → Found → Bool
 isMarked l (At k) = eqb (getD l k 0) 1
 isMarked l Nothing = false
 
--- the number of a found node, or n
-abbrev pub numberOf : Found → ℕ → ℕ
-numberOf (At k) n = k
-numberOf Nothing n = n
-
 -- one of the two is marked, by marks of what is part of the knowledge
 pub record SomeMarked (s : List ℕ) (n : ℕ) (found other : Found) (r : Bool) : Type 0 where
   pub marks : List ℕ
@@ -233,11 +238,6 @@ pub record SomeMarked (s : List ℕ) (n : ℕ) (found other : Found) (r : Bool) 
   pub first : lowest ≤ numberOf found n
   pub second : lowest ≤ numberOf other n
   pub is : r ≡ (isMarked marks found || isMarked marks other)
-
--- how many nodes there are with the guess's, which was found among n terms or not
-abbrev pub nodesWith : Found → ℕ → ℕ
-nodesWith (At k) n = n
-nodesWith Nothing n = n + 1
 
 -- the state m is that before the first instruction
 pub record Started (s : List ℕ) (name : ℕ) (m : Machine) : Type 0 where

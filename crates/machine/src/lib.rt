@@ -28,7 +28,7 @@ ghost use Rattle.base.specs.Answer.{answerOf, done};
 ghost use Rattle.base.specs.Computed.{failsIf, answered};
 ghost use Rattle.program.specs.Computed.{badProgram};
 ghost use Rattle.machine.specs.Computed.{isStaleName, runAnswer};
-ghost use Rattle.machine.specs.Code.{sideOf, nodeFor, nodeOf, operandsOf, sameNode, partsOfOne, inverseNodes, matchNodes, isNodeFrom, foundOf, orFound, valueOf, when, values, Executable, Valued, Gives, knowledge, Loaded, Started, Testable, guessNode, recordsIn, TermNodes, treated, PartMarks, isMarked, SomeMarked, inverseHead, inverseNode, numberIn, isAt, numberOf, nodesWith};
+ghost use Rattle.machine.specs.Code.{sideOf, nodeFor, nodeOf, operandsOf, sameNode, partsOfOne, inverseNodes, matchNodes, isNodeFrom, foundOf, orFound, valueOf, when, values, Executable, Placed, Gives, knowledge, Loaded, Started, Testable, guessNode, recordsIn, TermNodes, treated, PartMarks, isMarked, SomeMarked, inverseHead, inverseNode, numberIn, isAt, numberOf, nodesWith};
 
 // ---- Terms as nodes.
 
@@ -268,23 +268,19 @@ impl Machine {
         requires { ⌜ from ≤ self .nodes ⌝ }
         requires { ⌜ self .nodes < 384 ⌝ }
         requires { ⌜ self .used < 256 ⌝ }
-        ensures { λ r. ⌜ Valued self v (valueOf self v from reduced) r ⌝ }
+        ensures { λ r. ⌜ Placed self v (valueOf self v from reduced) r ⌝ }
     {
         let n = self.nodes;
         let found = value_of(&self.heads, &self.lefts, &self.rights, v, from, n, reduced);
+        // The place after the last node is free: where the value was found, what is put there is no node.
+        let k = index(n);
+        self.heads[k] = v.head;
+        self.lefts[k] = v.left;
+        self.rights[k] = v.right;
+        self.nodes = nodes_with(found, n);
         let used = self.used;
-        let i = index(used);
+        self.registers[index(used)] = number_of(found, n);
         self.used = used + 1;
-        let Found::At(there) = found else {
-            let k = index(n);
-            self.heads[k] = v.head;
-            self.lefts[k] = v.left;
-            self.rights[k] = v.right;
-            self.nodes = n + 1;
-            self.registers[i] = n;
-            return self;
-        };
-        self.registers[i] = there;
         self
     }
 

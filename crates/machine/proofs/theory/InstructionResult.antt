@@ -21,7 +21,7 @@ use Rattle.machine.specs.declared.Found.the-variants.{Nothing}
 use Rattle.machine.specs.declared.Cipher.{Cipher}
 use Rattle.program.specs.Program.{Instruction, operand}
 use Rattle.machine.specs.Run.{executed}
-use Rattle.machine.specs.Code.{nodeIn, operandsIn, termAt, register, values, partsOfOne, matchNodes, when, valueOf, Valued, Gives, Executable}
+use Rattle.machine.specs.Code.{nodeIn, operandsIn, termAt, register, values, partsOfOne, matchNodes, when, valueOf, Placed, Gives, Executable}
 use Rattle.machine.proofs.theory.KeyNodes.{cipherOf}
 use Rattle.machine.proofs.theory.NodeReductions.{Ready, Reduct, form, right-part-in, result-gives, joined-reduct, parted-reduct, cancelled-reduct, other-reduct}
 
@@ -70,7 +70,7 @@ module _ {m : Machine} {i : Instruction} {p q o : ℕ} (w : Executable m i) (e :
 -- ---- the result, by what the rule's word over the two nodes reduces to
 -- r is the state m with that result in the next register: the node x, or the word's own node
 abbrev Results : Machine → Instruction → ℕ → ℕ → Found → Machine → Type 0
-Results m i a b x r = Valued m (form (i .rule) a b) (valueOf m (form (i .rule) a b) (a + 1) x) r
+Results m i a b x r = Placed m (form (i .rule) a b) (valueOf m (form (i .rule) a b) (a + 1) x) r
 
 result : {m : Machine} {i : Instruction} {a b : ℕ} {x : Found} {r : Machine} (h : Head) → headOf (i .rule) ≡ h →
     Results m i a b x r → Reads m i a b → Reduct m h a b x → Gives m (executed (values m) i) r

@@ -25,10 +25,10 @@ use Rattle.machine.specs.declared.Operands.{Operands}
 use Rattle.machine.specs.declared.Found.{Found}
 use Rattle.machine.specs.declared.Found.the-variants.{At, Nothing}
 use Rattle.machine.specs.declared.Cipher.{Cipher as CipherRead}
-use Rattle.machine.specs.Code.{atoms, recordFor, nodeFor, nodeOf, operandsOf, operandsIn, nodeIn, nodeAt, valueOf, partsOfOne, matchNodes, when, termAt, SoundState, Valued, Gives}
+use Rattle.machine.specs.Code.{atoms, recordFor, nodeFor, nodeOf, operandsOf, operandsIn, nodeIn, nodeAt, valueOf, partsOfOne, matchNodes, when, termAt, SoundState, Placed, Gives}
 use Rattle.machine.proofs.theory.NodeRecords.{compound-below, compound-term, compound-node}
-use Rattle.machine.proofs.theory.NodeSearch.{same-node, Absent, found-gives}
-use Rattle.machine.proofs.theory.StateGrowth.{isNode, Fit, stored-gives, register-stored}
+use Rattle.machine.proofs.theory.NodeSearch.{same-node, Absent, placed-there, placed-gives}
+use Rattle.machine.proofs.theory.StateGrowth.{isNode, Fit}
 use Rattle.machine.proofs.theory.KeyNodes.{cipherOf, keys-match}
 
 -- the numbers of two nodes of the state m
@@ -70,11 +70,11 @@ module _ {m : Machine} {rule a b : ℕ} (w : Ready m a b) (l : rule < rules) whe
 
   -- the result: what the rule's word reduces to, or its own node
   pub result-gives : {r : Machine} (reduced : Found) → Reduct m (headOf rule) a b reduced →
-      Valued m (form rule a b) (valueOf m (form rule a b) (a + 1) reduced) r → Gives m (op (headOf rule) (termAt m a) (termAt m b)) r
+      Placed m (form rule a b) (valueOf m (form rule a b) (a + 1) reduced) r → Gives m (op (headOf rule) (termAt m a) (termAt m b)) r
   result-gives (At n) d v =
       let (l, t) = d .there n refl in
-      rw (v .is, t) (stored-gives (register-stored (w .sound) l (v .space) refl))
-  result-gives Nothing d v = rw (d .nothing refl, ← (ap (message (termAt m)) (form-record rule a b l))) (found-gives (a + 1) form-fit form-absent refl v)
+      rw t (placed-there {v = form rule a b} (w .sound) l v)
+  result-gives Nothing d v = rw (d .nothing refl, ← (ap (message (termAt m)) (form-record rule a b l))) (placed-gives (a + 1) form-fit form-absent refl v)
 
 -- ---- whether a rule reduces, by a test
 when-reduct : {m : Machine} {h : Head} {a b : ℕ} (t : Bool) (n : ℕ) → (t ≡ true → (n < m .nodes) × (op h (termAt m a) (termAt m b) ≡ termAt m n)) →

@@ -18,8 +18,8 @@ use Rattle.machine.specs.declared.Node.{Node}
 use Rattle.machine.specs.declared.Machine.{Machine}
 use Rattle.machine.specs.declared.Found.{Found}
 use Rattle.machine.specs.declared.Found.the-variants.{At, Nothing}
-use Rattle.machine.specs.Code.{atomHead, recordFor, nodeOf, termAt, sameNode, isNodeFrom, foundOf, orFound, inverseNodes, withValue, Valued, Gives, Room, numberOf, nodesWith}
-use Rattle.machine.proofs.theory.StateGrowth.{isNode, Fit, stored-gives, register-stored, node-added, spare, spare-terms, spare-sound, spare-values}
+use Rattle.machine.specs.Code.{atomHead, recordFor, nodeOf, termAt, sameNode, isNodeFrom, foundOf, orFound, inverseNodes, SoundState, placed, Placed, Gives, numberOf, nodesWith}
+use Rattle.machine.proofs.theory.StateGrowth.{isNode, Fit, register-stored, node-added, spare, spare-terms, spare-sound, spare-values}
 
 -- ---- looking for a node
 -- none before the number where the search starts
@@ -55,23 +55,24 @@ same-node {v} {w} t = let u = says-same v w .0 t in rw (u .0, u .1 .0, u .1 .1)
 pub record Absent (m : Machine) (v : Node) (from : ℕ) : Type 0 where
   pub none : (k : ℕ) → k < from → isNode m v k ≡ false
 
--- the state with the node v after the last one, and the number of v, which was found or not, in the next register
-abbrev pub placed : Machine → Node → Found → Machine
-placed m v o = record { heads = set (m .heads) (m .nodes) (v .head); lefts = set (m .lefts) (m .nodes) (v .left); rights = set (m .rights) (m .nodes) (v .right); nodes = nodesWith o (m .nodes); registers = set (m .registers) (m .used) (numberOf o (m .nodes)); used = m .used + 1 }
-
-pub record Placed (m : Machine) (v : Node) (o : Found) (r : Machine) : Type 0 where
-  pub room : Room m
-  pub space : m .used < length (m .registers)
-  pub is : r ≡ placed m v o
-
 pub nodes-more : (n : ℕ) {o : Found} → o ≡ Nothing → n + 1 ≡ nodesWith o n
 nodes-more n e = rw e
 
 -- as the code writes it
-pub placed-so : {m : Machine} {v : Node} {o : Found} {n k i a b : ℕ} → m .nodes < length (m .heads) → m .nodes < length (m .lefts) → m .nodes < length (m .rights) → m .used < length (m .registers) →
-    n ≡ m .nodes → k ≡ n → i ≡ m .used → a ≡ numberOf o n → b ≡ nodesWith o n →
+pub placed-so : {m : Machine} {v : Node} {f o : Found} {n k i a b : ℕ} → m .nodes < length (m .heads) → m .nodes < length (m .lefts) → m .nodes < length (m .rights) → m .used < length (m .registers) →
+    f ≡ o → n ≡ m .nodes → k ≡ n → i ≡ m .used → a ≡ numberOf f n → b ≡ nodesWith f n →
     Placed m v o (record { heads = set (m .heads) k (v .head); lefts = set (m .lefts) k (v .left); rights = set (m .rights) k (v .right); nodes = b; registers = set (m .registers) i a; used = m .used + 1 })
-placed-so x y z u c d e f g = record { room = record { heads = x; lefts = y; rights = z }; space = u; is = rw (g, f, e, d, c) }
+placed-so x y z u h c d e f g = record { room = record { heads = x; lefts = y; rights = z }; space = u; is = rw (g, f, e, d, c, h) }
+
+-- a node of the state in the next register
+pub placed-there : {m : Machine} {v : Node} {i : ℕ} → SoundState m → i < m .nodes → {r : Machine} → Placed m v (At i) r → Gives m (termAt m i) r
+placed-there {m} {v} {i} s l w =
+    let p = register-stored {m = spare m v (w .room)} {n = i} (spare-sound m v (w .room) s) l (w .space) refl in
+    rw (w .is) (record {
+      holds = record { sound = p .holds .sound; is = p .holds .is ∙ ap₂ (λ vs t. vs ++ t ∷ []) (spare-values m v (w .room)) (spare-terms m v (w .room) i) };
+      used = p .used;
+      few = omega (arith, p .nodes);
+    })
 
 -- a search from a number on, before which the node is not
 module _ {m : Machine} {v : Node} (from : ℕ) {o : Found} (f : Fit m v) (a : Absent m v from) (e : o ≡ foundOf (first (isNodeFrom (m .heads) (m .lefts) (m .rights) v from) (m .nodes))) where
@@ -86,17 +87,7 @@ module _ {m : Machine} {v : Node} (from : ℕ) {o : Found} (f : Fit m v) (a : Ab
   nowhere h k l = ⊎-elim (a .none k)
       (λ b. let z = first-none (isNodeFrom (m .heads) (m .lefts) (m .rights) v from) (m .nodes) (found-nothing _ (sym e ∙ h)) k l in rw (le-leb from k b) at z) (lt-or-ge k from)
 
-  pub found-gives : {r : Machine} → Valued m v o r → Gives m (message (termAt m) (recordFor v)) r
-  found-gives {r} w = go o refl (w .is)
-    where
-      go : (z : Found) → o ≡ z → r ≡ withValue m v z → Gives m (message (termAt m) (recordFor v)) r
-      go (At i) h q =
-          let (l, t) = there h in
-          let u : termAt m i ≡ message (termAt m) (recordFor v) = f .sound .table .reads i l ∙ ap (λ z. message (termAt m) (recordFor z)) (same-node t) in
-          rw (q, ← u) (stored-gives (register-stored (f .sound) l (w .space) refl))
-      go Nothing h q = rw q (node-added m v (w .room) f (nowhere h) (w .space))
-
-  -- in place: the node is put after the last one, and its number, or that of the node found, into the next register
+  -- the node is put after the last one, and its number, or that of the node found, into the next register
   pub placed-gives : {r : Machine} → Placed m v o r → Gives m (message (termAt m) (recordFor v)) r
   placed-gives {r} w = go o refl (w .is)
     where
@@ -104,12 +95,7 @@ module _ {m : Machine} {v : Node} (from : ℕ) {o : Found} (f : Fit m v) (a : Ab
       go (At i) h q =
           let (l, t) = there h in
           let u : termAt m i ≡ message (termAt m) (recordFor v) = f .sound .table .reads i l ∙ ap (λ z. message (termAt m) (recordFor z)) (same-node t) in
-          let p = register-stored {m = spare m v (w .room)} {n = i} (spare-sound m v (w .room) (f .sound)) l (w .space) refl in
-          rw q (record {
-            holds = record { sound = p .holds .sound; is = p .holds .is ∙ ap₂ (λ vs t. vs ++ t ∷ []) (spare-values m v (w .room)) (spare-terms m v (w .room) i ∙ u) };
-            used = p .used;
-            few = omega (arith, p .nodes);
-          })
+          rw (← u) (placed-there {v = v} (f .sound) l (record { room = w .room; space = w .space; is = q }))
       go Nothing h q = rw q (node-added m v (w .room) f (nowhere h) (w .space))
 
 -- what was found first
@@ -119,17 +105,6 @@ module _ {r : Found} (o : Found) where
 
   pub found-second : {t : Found} → r ≡ Nothing → t ≡ o → t ≡ orFound r o
   found-second e f = rw e f
-
--- ---- the state with a value in the next register, as the code writes it
-module _ {m : Machine} {v : Node} {f o : Found} {i : ℕ} (u : f ≡ o) (q : i ≡ m .used)
-    (x : m .nodes < length (m .heads)) (y : m .nodes < length (m .lefts)) (z : m .nodes < length (m .rights)) (w : m .used < length (m .registers)) where
-  pub value-new : {k : ℕ} → f ≡ Nothing → k ≡ m .nodes →
-      Valued m v o (record { heads = set (m .heads) k (v .head); lefts = set (m .lefts) k (v .left); rights = set (m .rights) k (v .right); nodes = m .nodes + 1; registers = set (m .registers) i (m .nodes); used = m .used + 1 })
-  value-new e g = record { room = record { heads = x; lefts = y; rights = z }; space = w; is = rw (← u, e, g, q) }
-
-  pub value-there : {n : ℕ} → f ≡ At n →
-      Valued m v o (record { heads = m .heads; lefts = m .lefts; rights = m .rights; nodes = m .nodes; registers = set (m .registers) i n; used = m .used + 1 })
-  value-there e = record { room = record { heads = x; lefts = y; rights = z }; space = w; is = rw (← u, e, q) }
 
 -- ---- inverse keys
 module _ (v w : Node) where

@@ -24,10 +24,10 @@ use Rattle.machine.specs.declared.Node.{Node}
 use Rattle.machine.specs.declared.Machine.{Machine}
 use Rattle.machine.specs.declared.Found.{Found}
 use Rattle.machine.specs.Run.{initial}
-use Rattle.machine.specs.Code.{atoms, atomHead, recordFor, nodeFor, nodeIn, nodeAt, termAt, values, SoundState, withNode, Room, guessNode, numberIn, knowledge, Loaded, Started}
+use Rattle.machine.specs.Code.{atoms, atomHead, recordFor, nodeFor, nodeIn, nodeAt, termAt, values, SoundState, withNode, Room, Placed, guessNode, numberIn, knowledge, Loaded, Started}
 use Rattle.machine.proofs.theory.NodeRecords.{atom-record, record-node}
 use Rattle.machine.proofs.theory.StateGrowth.{decoded-alike, node-old, node-new, Fit, register-stored}
-use Rattle.machine.proofs.theory.NodeSearch.{Absent, Placed, placed-gives}
+use Rattle.machine.proofs.theory.NodeSearch.{Absent, placed-gives}
 use Rattle.term.specs.Computed.{isAtomic}
 
 -- what holds of the terms, and of the claim, after checks 1 to 5

@@ -68,9 +68,6 @@ module _ {m : Machine} {n : ℕ} (w : SoundState m) (l : n < m .nodes) (space : 
   pub register-stored : {i : ℕ} → i ≡ m .used → Stored m n (record { heads = m .heads; lefts = m .lefts; rights = m .rights; nodes = m .nodes; registers = set (m .registers) i n; used = m .used + 1 })
   register-stored e = rw e (record { holds = record { sound = register-sound; is = register-values }; used = refl; nodes = refl; terms = register-terms })
 
-pub stored-gives : {m r : Machine} {n : ℕ} → Stored m n r → Gives m (termAt m n) r
-stored-gives s = record { holds = s .holds; used = s .used; few = omega (arith, s .nodes) }
-
 -- ---- one node more
 -- a node that can be put into the state m
 pub record Fit (m : Machine) (v : Node) : Type 0 where

@@ -71,7 +71,7 @@ signalled-requires c κs =
     let loaded = start .with-knowledge .ensures in
     let room = guess-room (entry .pre .0) loaded refl in
     let space = guess-space (entry .pre .0) loaded refl in
-    let placed = placed-so {m = m} {v = c .before .before .before .before .before .before .before .before .before .before .before .before .before .before .before .guess-node .result} {o = c .before .before .before .before .before .before .before .before .before .before .find .result} (rw x room) (rw y room) (rw z room) (rw (loaded .long) space) refl (c .before .before .before .index .ensures) (c .index2 .ensures) (c .before .number-of .ensures) (c .before .before .nodes-with .ensures) in
+    let placed = placed-so {m = m} {v = c .before .before .before .before .before .before .before .before .before .before .before .before .before .before .before .guess-node .result} {o = c .before .before .before .before .before .before .before .before .before .before .find .result} (rw x room) (rw y room) (rw z room) (rw (loaded .long) space) refl refl (c .before .before .before .index .ensures) (c .index2 .ensures) (c .before .number-of .ensures) (c .before .before .nodes-with .ensures) in
     (entry .pre .0, (guess-started (entry .pre .0) _ loaded (c .before .before .before .before .before .before .before .before .before .before .before .before .before .before .before .guess-node .ensures) (c .before .before .before .before .before .before .before .before .before .before .find .ensures) placed, (entry .pre .1 .0, entry .pre .1 .1)))
 
 returns-2 : tie.Need-returns-2

@@ -1,5 +1,6 @@
--- `with_value` meets its contract: a node that was found, or a new one.
-use Rattle.machine.proofs.theory.NodeSearch.{value-new, value-there}
+-- `with_value` meets its contract: the node is put after the last one, and its number, or that of the node found, into the next register.
+use mathlib.Core.Path.{refl}
+use Rattle.machine.proofs.theory.NodeSearch.{placed-so}
 use borrow.Author.Needs.{needs}
 use Rattle.machine.proofs.Machine.with_value.Statement.{statement}
 use Rattle.machine.proofs.Machine.with_value.Tie as tie
@@ -9,18 +10,6 @@ value-of-requires c κs = search needs
 
 index-requires : tie.Need-index-requires
 index-requires c κs = search needs
-
-add-self : tie.Need-add-self
-add-self c = search needs
-
-enum-known-found : tie.Need-enum-known-found
-enum-known-found c = search needs
-
-enum-told : tie.Need-enum-told
-enum-told c = search needs
-
-index-requires-2 : tie.Need-index-requires-2
-index-requires-2 c κs = search needs
 
 element-write-self : tie.Need-element-write-self
 element-write-self c = search needs
@@ -37,8 +26,14 @@ mul-self-2 c = search needs
 element-write-self-3 : tie.Need-element-write-self-3
 element-write-self-3 c = search needs
 
-add-self-2 : tie.Need-add-self-2
-add-self-2 c = search needs
+nodes-with-requires : tie.Need-nodes-with-requires
+nodes-with-requires c κs = search needs
+
+number-of-requires : tie.Need-number-of-requires
+number-of-requires c κs = search needs
+
+index-requires-2 : tie.Need-index-requires-2
+index-requires-2 c κs = search needs
 
 mul-self-3 : tie.Need-mul-self-3
 mul-self-3 c = search needs
@@ -46,17 +41,12 @@ mul-self-3 c = search needs
 element-write-self-4 : tie.Need-element-write-self-4
 element-write-self-4 c = search needs
 
+add-self : tie.Need-add-self
+add-self c = search needs
+
 returns : tie.Need-returns
-returns c = search (value-new, needs)
-
-mul-self-4 : tie.Need-mul-self-4
-mul-self-4 c = search needs
-
-element-write-self-5 : tie.Need-element-write-self-5
-element-write-self-5 c = search needs
-
-returns-2 : tie.Need-returns-2
-returns-2 c = search (value-there, needs)
+returns c =
+    placed-so (search needs) (search needs) (search needs) (search needs) (c .before .before .before .before .value-of .ensures) refl (c .before .before .before .index .ensures) (c .index2 .ensures) (c .before .number-of .ensures) (c .before .before .nodes-with .ensures)
 
 pub with-value-spec : {M : Type 1} → statement M
 with-value-spec =
@@ -64,19 +54,15 @@ with-value-spec =
     (tie.spec
     value-of-requires
     index-requires
-    add-self
-    enum-known-found
-    enum-told
-    index-requires-2
     element-write-self
     mul-self
     element-write-self-2
     mul-self-2
     element-write-self-3
-    add-self-2
+    nodes-with-requires
+    number-of-requires
+    index-requires-2
     mul-self-3
     element-write-self-4
-    returns
-    mul-self-4
-    element-write-self-5
-    returns-2)
+    add-self
+    returns)
