@@ -11,3 +11,4 @@ pub mod StaleNames
 pub mod StaleSearch
 pub mod StartState
 pub mod StateGrowth
+pub mod StateMeaning

@@ -1,11 +1,11 @@
--- What the code's structs and enums mean in document 01's terms.
+-- What the functions of the code do, over nodes and registers. That these mean document 01's terms is proved.
 -- Values can be exponentially large as trees, so the machine holds them shared: a table of nodes, no two equal, and registers with their numbers.
 use Rattle.term.specs.Term as words
 use mathlib.Core.{Path._≡_, Bool.Bool, Bool.true, Bool.false, Bool._&&_, Bool._||_, Bool.cond, List.List, List.[], List._∷_, List._++_, Option.Option, Option.none, Option.some}
 use Prim.Native.Nat.{ℕ, _+_, _-_, _≤_, _<_}
 use lib.{Dec.eqb, Dec.ltb, Dec.leb, ListN.length, ListN.getD, ListN.set}
 use Rattle.base.specs.Words.{first, listed}
-use Rattle.term.specs.{Term.Kind, Term.public, Term.private, Term.left, Term.right, Term.part, Term.atomic, Term.Term, Term.atomKind, Number.shapeOf, Computed.kindOf, Term.Rec, Term.leaf, Term.branch, Term.decoded, Term.void, Code.Table, Code.ruleOf, Number.rules, Number.headOf}
+use Rattle.term.specs.{Term.Kind, Term.public, Term.private, Term.symmetric, Term.asymmetric, Term.left, Term.right, Term.pair, Term.hash, Term.encryption, Term.Head, Term.make, Term.part, Term.decrypt, Term.pick, Term.Relation, Term.equal, Term.inverses, Term.atomic, Term.Term, Term.atomKind, Number.shapeOf, Computed.kindOf, Term.Rec, Term.leaf, Term.branch, Term.decoded, Term.void, Code.Table, Code.ruleOf, Number.rules, Number.headOf}
 use Rattle.submission.specs.{Record.terms, Record.entries, Record.entryAt, Record.guess, Record.kindAt, Record.recordAt, Record.term, Code.KnownPart}
 use Rattle.machine.specs.declared.Node.{Node}
 use Rattle.machine.specs.declared.Machine.{Machine}
@@ -23,6 +23,10 @@ use Rattle.machine.specs.Run.{initial, registers}
 abbrev pub sideOf : Side → words.Side
 sideOf Left = left
 sideOf Right = right
+
+abbrev pub cipherOf : Cipher → words.Cipher
+cipherOf Symmetric = symmetric
+cipherOf Asymmetric = asymmetric
 
 -- ---- nodes
 -- a head below this is a rule's number; those of atoms are this and the kind
@@ -42,43 +46,23 @@ nodeFor (leaf κ n) = record { head = atomHead κ; left = n; right = 0 }
 nodeFor (branch h x y) = record { head = ruleOf h; left = x; right = y }
 
 -- ---- the state
+abbrev pub stateOf : List ℕ → List ℕ → List ℕ → ℕ → List ℕ → ℕ → Machine
+stateOf heads lefts rights nodes registers used = record { heads = heads; lefts = lefts; rights = rights; nodes = nodes; registers = registers; used = used }
+
 -- the node of a number, in the state's arrays
 abbrev pub nodeOf : List ℕ → List ℕ → List ℕ → ℕ → Node
 nodeOf heads lefts rights k = record { head = getD heads k 0; left = getD lefts k 0; right = getD rights k 0 }
+
+-- the arrays of nodes are of the code's length
+pub record NodeArrays (hs ls rs : List ℕ) : Type 0 where
+  pub heads : length hs ≡ 384
+  pub lefts : length ls ≡ 384
+  pub rights : length rs ≡ 384
 
 -- what the reductions look at
 abbrev pub operandsOf : List ℕ → List ℕ → List ℕ → ℕ → ℕ → Operands
 operandsOf heads lefts rights a b =
     record { left = nodeOf heads lefts rights a; right = nodeOf heads lefts rights b; key = nodeOf heads lefts rights (getD rights a 0) }
-
-abbrev pub operandsIn : Machine → ℕ → ℕ → Operands
-operandsIn m a b = operandsOf (m .heads) (m .lefts) (m .rights) a b
-
-abbrev pub nodeIn : Machine → ℕ → Node
-nodeIn m k = nodeOf (m .heads) (m .lefts) (m .rights) k
-
-abbrev pub nodeAt : Machine → ℕ → Rec
-nodeAt m k = recordFor (nodeIn m k)
-
--- the term of node k
-unfoldable pub termAt : Machine → ℕ → Term
-termAt m k = getD (decoded (nodeAt m) (m .nodes)) k void
-
-abbrev pub register : Machine → ℕ → ℕ
-register m r = getD (m .registers) r 0
-
--- the registers' values
-unfoldable pub values : Machine → List Term
-values m = listed (λ r. termAt m (register m r)) (m .used)
-
-pub record SoundState (m : Machine) : Type 0 where
-  pub table : Table (nodeAt m) (m .nodes) (termAt m)
-  pub canonical : (k : ℕ) → k < m .nodes → nodeFor (nodeAt m k) ≡ nodeIn m k
-  pub written : (r : ℕ) → r < m .used → register m r < m .nodes
-
-pub record Holds (m : Machine) (vs : List Term) : Type 0 where
-  pub sound : SoundState m
-  pub is : values m ≡ vs
 
 -- ---- what the machine's functions do
 -- what looking for a node finds
@@ -109,20 +93,34 @@ inverseNodes v w =
     && eqb (v .left) (w .left)
 
 -- the keys of opposite operations, by their numbers and their nodes
-abbrev pub matchNodes : Cipher → ℕ → ℕ → Node → Node → Bool
-matchNodes Symmetric k j v w = eqb k j
-matchNodes Asymmetric k j v w = inverseNodes v w
+abbrev pub matchNodes : words.Cipher → ℕ → ℕ → Node → Node → Bool
+matchNodes symmetric k j v w = eqb k j
+matchNodes asymmetric k j v w = inverseNodes v w
 
 -- a number, where a test holds
 abbrev pub when : Bool → ℕ → Found
 when b n = cond b (At n) Nothing
 
--- the state m with one node or one register more
-abbrev pub withNode : Machine → Node → Machine
-withNode m v = record { heads = set (m .heads) (m .nodes) (v .head); lefts = set (m .lefts) (m .nodes) (v .left); rights = set (m .rights) (m .nodes) (v .right); nodes = m .nodes + 1; registers = m .registers; used = m .used }
+-- what a head that cancels the head g gives over the operands o, the right one the node j
+abbrev pub opened : words.Cipher → Head → Operands → ℕ → Found
+opened c g o j = when (eqb (o .left .head) (ruleOf g) && matchNodes c (o .left .right) j (o .key) (o .right)) (o .left .left)
 
-abbrev pub withRegister : Machine → ℕ → Machine
-withRegister m n = record { heads = m .heads; lefts = m .lefts; rights = m .rights; nodes = m .nodes; registers = set (m .registers) (m .used) n; used = m .used + 1 }
+-- the reductions, over nodes: what a head gives over the operands o, the right one the node j
+abbrev pub reduced : Head → Operands → ℕ → Found
+reduced (make pair) o j = when (partsOfOne (o .left) (o .right)) (o .left .left)
+reduced (make hash) o j = Nothing
+reduced (make (encryption c)) o j = opened c (decrypt c) o j
+reduced (part s) o j = when (eqb (o .left .head) (ruleOf (make pair))) (pick s (o .left .left) (o .left .right))
+reduced (decrypt c) o j = opened c (make (encryption c)) o j
+
+-- the node that v reduces to, or that is v, of the first n; a node comes after its left operand
+abbrev pub valueOf : List ℕ → List ℕ → List ℕ → Node → ℕ → Found
+valueOf heads lefts rights v n =
+    orFound (reduced (headOf (v .head)) (operandsOf heads lefts rights (v .left) (v .right)) (v .right)) (foundOf (first (isNodeFrom heads lefts rights v (v .left + 1)) n))
+
+-- the rule of an instruction over the nodes of its registers
+abbrev pub formedBy : List ℕ → Instruction → Node
+formedBy registers i = record { head = i .rule; left = getD registers (i .left) 0; right = getD registers (operand i) 0 }
 
 -- the state's arrays have room for a node
 pub record Room (m : Machine) : Type 0 where
@@ -145,47 +143,33 @@ nodesWith Nothing n = n + 1
 abbrev pub placed : Machine → Node → Found → Machine
 placed m v o = record { heads = set (m .heads) (m .nodes) (v .head); lefts = set (m .lefts) (m .nodes) (v .left); rights = set (m .rights) (m .nodes) (v .right); nodes = nodesWith o (m .nodes); registers = set (m .registers) (m .used) (numberOf o (m .nodes)); used = m .used + 1 }
 
--- the node that a term reduces to, or the first from a number on that is v
-abbrev pub valueOf : Machine → Node → ℕ → Found → Found
-valueOf m v from reduced = orFound reduced (foundOf (first (isNodeFrom (m .heads) (m .lefts) (m .rights) v from) (m .nodes)))
-
 pub record Placed (m : Machine) (v : Node) (found : Found) (r : Machine) : Type 0 where
   pub room : Room m
   pub space : m .used < length (m .registers)
   pub is : r ≡ placed m v found
 
--- r is the state m with the term t in the next register
-pub record Gives (m : Machine) (t : Term) (r : Machine) : Type 0 where
-  pub holds : Holds r (values m ++ t ∷ [])
-  pub used : r .used ≡ m .used + 1
-  pub few : r .nodes ≤ m .nodes + 1
-
--- an instruction that the state m can execute
+-- the state m can execute the instruction i
 pub record Executable (m : Machine) (i : Instruction) : Type 0 where
-  pub sound : SoundState m
   pub rule : i .rule < rules
-  pub left : i .left < m .used
-  pub right : operand i < m .used
+  pub left : formedBy (m .registers) i .left < m .nodes
+  pub right : formedBy (m .registers) i .right < m .nodes
+  pub key : getD (m .rights) (formedBy (m .registers) i .left) 0 < 384
   pub room : m .nodes < 384
   pub space : m .used < 256
 
--- ---- a run
--- the first n registers: "Registers 0 to K-1 hold the knowledge in order"
-abbrev pub knowledge : List ℕ → ℕ → List Term
-knowledge s n = listed (λ i. term s (entryAt s i)) n
+-- r is the state m with the result of the instruction i in the next register
+abbrev pub Executed : Machine → Instruction → Machine → Type 0
+Executed m i r = Placed m (formedBy (m .registers) i) (valueOf (m .heads) (m .lefts) (m .rights) (formedBy (m .registers) i) (m .nodes)) r
 
+-- ---- the start of a run
 -- the arrays hold the terms' nodes, by their numbers
 pub record TermNodes (s heads lefts rights : List ℕ) : Type 0 where
   pub is : (k : ℕ) → k < terms s → nodeOf heads lefts rights k ≡ nodeFor (recordAt s k)
 
--- the state m holds the submission's terms, by their numbers, and these values
-pub record Loaded (s : List ℕ) (vs : List Term) (m : Machine) : Type 0 where
-  pub holds : Holds m vs
-  pub used : m .used ≡ length vs
-  pub nodes : m .nodes ≡ terms s
-  pub is : (k : ℕ) → termAt m k ≡ term s k
-  pub records : TermNodes s (m .heads) (m .lefts) (m .rights)
-  pub long : length (m .registers) ≡ 256
+-- the first registers hold the numbers of the knowledge
+pub record EntryRegisters (s registers : List ℕ) : Type 0 where
+  pub long : length registers ≡ 256
+  pub is : (i : ℕ) → i < entries s → getD registers i 0 ≡ entryAt s i
 
 -- ---- stale names
 -- the atom of the guess's kind with this name
@@ -239,21 +223,7 @@ pub record SomeMarked (s : List ℕ) (n : ℕ) (found other : Found) (r : Bool) 
   pub second : lowest ≤ numberOf other n
   pub is : r ≡ (isMarked marks found || isMarked marks other)
 
--- the state m is that before the first instruction
-pub record Started (s : List ℕ) (name : ℕ) (m : Machine) : Type 0 where
-  pub holds : Holds m (initial s name)
-  pub used : m .used ≡ entries s + 1
-  pub few : m .nodes ≤ 251
-
--- the state m holds the registers' values after n instructions
-pub record Running (s : List ℕ) (name : ℕ) (P : List ℕ) (n : ℕ) (m : Machine) : Type 0 where
-  pub holds : Holds m (registers s name P n)
-  pub used : m .used ≡ entries s + 1 + n
-  pub few : m .nodes ≤ 251 + n
-
--- a test that the state m can make
-pub record Testable (m : Machine) (t : Instruction) : Type 0 where
-  pub sound : SoundState m
-  pub left : t .left < m .used
-  pub right : t .right < m .used
-  pub room : m .nodes ≤ 384
+-- the relation of two nodes, by their numbers
+abbrev pub related : Relation → List ℕ → List ℕ → List ℕ → ℕ → ℕ → Bool
+related equal heads lefts rights a b = eqb a b
+related inverses heads lefts rights a b = inverseNodes (nodeOf heads lefts rights a) (nodeOf heads lefts rights b)

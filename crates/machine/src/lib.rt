@@ -5,6 +5,7 @@
 use base::Answer;
 use program::Asked;
 use program::Instruction;
+use program::Test;
 use submission::Reading;
 use term::Relation;
 use term::kinds;
@@ -13,22 +14,22 @@ ghost use mathlib.Core.Path.{_≡_};
 ghost use mathlib.Core.Bool.{false, cond, _&&_};
 ghost use Prim.Native.Nat.{_+_, _≤_, _<_};
 ghost use lib.Dec.{eqb};
-ghost use lib.ListN.{length};
+ghost use lib.ListN.{length, getD};
 ghost use Rattle.base.specs.Words.{first};
 ghost use Rattle.term.specs.Term.{pair, make, pick};
 ghost use Rattle.term.specs.Code.{ruleOf, relationIs, Below};
-ghost use Rattle.submission.specs.Record.{terms as termCount, entries as entryCount, recordAt};
+ghost use Rattle.submission.specs.Record.{terms as termCount, recordAt};
 ghost use Rattle.submission.specs.Code.{SubmissionRead};
 ghost use Rattle.deduction.specs.Code.{TableRead};
 ghost use mathlib.Core.Option.{some};
 ghost use Rattle.program.specs.Program.{relationOf, testAt};
 ghost use Rattle.program.specs.Code.{instructionIn};
-ghost use Rattle.machine.specs.Run.{executed as executedTerm, signals, signal as signalOf};
+ghost use Rattle.machine.specs.Run.{signal as signalOf};
 ghost use Rattle.base.specs.Answer.{answerOf, done};
 ghost use Rattle.base.specs.Computed.{failsIf, answered};
 ghost use Rattle.program.specs.Computed.{badProgram};
 ghost use Rattle.machine.specs.Computed.{isStaleName, runAnswer};
-ghost use Rattle.machine.specs.Code.{sideOf, nodeFor, nodeOf, operandsOf, sameNode, partsOfOne, inverseNodes, matchNodes, isNodeFrom, foundOf, orFound, valueOf, when, values, Executable, Placed, Gives, knowledge, Loaded, Started, Testable, guessNode, recordsIn, TermNodes, treated, PartMarks, isMarked, SomeMarked, inverseHead, inverseNode, numberIn, isAt, numberOf, nodesWith};
+ghost use Rattle.machine.specs.Code.{sideOf, cipherOf, nodeFor, nodeOf, operandsOf, sameNode, partsOfOne, inverseNodes, matchNodes, isNodeFrom, foundOf, orFound, when, Executable, Executed, numberOf, nodesWith, stateOf, NodeArrays, Placed, TermNodes, EntryRegisters, guessNode, recordsIn, treated, PartMarks, isMarked, SomeMarked, inverseHead, inverseNode, numberIn, isAt, related};
 
 // ---- Terms as nodes.
 
@@ -124,7 +125,7 @@ fn are_parts_of_one(x: Node, y: Node) -> bool
 
 // Whether keys are those of opposite operations; k and j are their numbers, x and y their nodes.
 fn do_match(cipher: Cipher, k: u16, j: u16, x: Node, y: Node) -> bool
-    ensures { λ r. ⌜ r ≡ matchNodes cipher k j x y ⌝ }
+    ensures { λ r. ⌜ r ≡ matchNodes (cipherOf cipher) k j x y ⌝ }
 {
     match cipher {
         Cipher::Symmetric => k == j,
@@ -174,7 +175,7 @@ fn parted(side: Side, o: Operands) -> Found
 
 // A rule that cancels the rule `inner`: over a node of that rule, under a key that goes with the key j, it gives the node's operand.
 fn cancelled(cipher: Cipher, inner: u8, o: Operands, j: u16) -> Found
-    ensures { λ r. ⌜ r ≡ when (eqb (o .left .head) inner && matchNodes cipher (o .left .right) j (o .key) (o .right)) (o .left .left) ⌝ }
+    ensures { λ r. ⌜ r ≡ when (eqb (o .left .head) inner && matchNodes (cipherOf cipher) (o .left .right) j (o .key) (o .right)) (o .left .left) ⌝ }
 {
     let x = o.left;
     if x.head != inner {
@@ -261,33 +262,32 @@ fn value_of<'a>(
     Found::At(i)
 }
 
-impl Machine {
-    // The state with a term in the next register: the node that it reduces to, or else v, by its number where a node from `from` on is v, and
-    // added where none is.
-    fn with_value(mut self, v: Node, from: u16, reduced: Found) -> Self
-        requires { ⌜ from ≤ self .nodes ⌝ }
-        requires { ⌜ self .nodes < 384 ⌝ }
-        requires { ⌜ self .used < 256 ⌝ }
-        ensures { λ r. ⌜ Placed self v (valueOf self v from reduced) r ⌝ }
-    {
-        let n = self.nodes;
-        let found = value_of(&self.heads, &self.lefts, &self.rights, v, from, n, reduced);
-        // The place after the last node is free: where the value was found, what is put there is no node.
-        let k = index(n);
-        self.heads[k] = v.head;
-        self.lefts[k] = v.left;
-        self.rights[k] = v.right;
-        self.nodes = nodes_with(found, n);
-        let used = self.used;
-        self.registers[index(used)] = number_of(found, n);
-        self.used = used + 1;
-        self
+// The number of a found node, or n.
+fn number_of(found: Found, n: u16) -> u16
+    ensures { λ r. ⌜ r ≡ numberOf found n ⌝ }
+{
+    match found {
+        Found::At(k) => k,
+        Found::Nothing => n,
     }
+}
 
+// How many nodes there are with one that was found among n, or not.
+fn nodes_with(found: Found, n: u16) -> u16
+    requires { ⌜ n < 384 ⌝ }
+    ensures { λ r. ⌜ r ≡ nodesWith found n ⌝ }
+{
+    match found {
+        Found::At(_) => n,
+        Found::Nothing => n + 1,
+    }
+}
+
+impl Machine {
     // Executes one instruction: its result goes to the next register.
-    fn step(self, i: Instruction) -> Self
+    fn step(mut self, i: Instruction) -> Self
         requires { ⌜ Executable self (instructionIn i) ⌝ }
-        ensures { λ r. ⌜ Gives self (executedTerm (values self) (instructionIn i)) r ⌝ }
+        ensures { λ r. ⌜ Executed self (instructionIn i) r ⌝ }
     {
         let p = base::wide(i.left);
         let q = base::wide(program::operand_of(i));
@@ -312,25 +312,22 @@ impl Machine {
             right: b,
         };
         // A node comes after its left operand.
-        self.with_value(v, a + 1, reduced)
+        let n = self.nodes;
+        let found = value_of(&self.heads, &self.lefts, &self.rights, v, a + 1, n, reduced);
+        // The place after the last node is free: where the value was found, what is put there is no node.
+        let k = index(n);
+        self.heads[k] = rule;
+        self.lefts[k] = a;
+        self.rights[k] = b;
+        self.nodes = nodes_with(found, n);
+        let used = self.used;
+        self.registers[index(used)] = number_of(found, n);
+        self.used = used + 1;
+        self
     }
 }
 
-// ---- A run.
-
-// A state with no node and no register in use.
-fn empty() -> Machine
-    ensures { λ r. ⌜ r .used ≡ 0 ⌝ }
-{
-    Machine {
-        heads: [0u8; 384],
-        lefts: [0u16; 384],
-        rights: [0u16; 384],
-        nodes: 0,
-        registers: [0u16; 256],
-        used: 0,
-    }
-}
+// ---- The start of a run.
 
 // The node of a term's record.
 fn node_of(s: &[u8], t: u8) -> Node
@@ -355,30 +352,33 @@ fn node_of(s: &[u8], t: u8) -> Node
     }
 }
 
-// The state that holds the terms, each under its own number, and the knowledge in the first registers. It is filled in one function: a state
-// that is handed on is copied.
-fn with_knowledge(s: &[u8]) -> Machine
+// Puts the terms into the arrays, each under its own number.
+fn put_terms(s: &[u8], heads: &mut [u8; 384], lefts: &mut [u16; 384], rights: &mut [u16; 384])
     requires { ⌜ SubmissionRead (now s) ⌝ }
-    ensures { λ r. ⌜ Loaded (now (s .entry)) (knowledge (now (s .entry)) (entryCount (now (s .entry)))) r ⌝ }
+    requires { ⌜ NodeArrays (now heads) (now lefts) (now rights) ⌝ }
+    ensures { λ _. ⌜ NodeArrays (now (heads .exit)) (now (lefts .exit)) (now (rights .exit)) × TermNodes (now (s .entry)) (now (heads .exit)) (now (lefts .exit)) (now (rights .exit)) ⌝ }
 {
-    let mut m = empty();
     let n = submission::terms(s);
     for t in 0..n {
         let v = node_of(s, t);
         let k = base::wide(t);
-        m.heads[k] = v.head;
-        m.lefts[k] = v.left;
-        m.rights[k] = v.right;
+        heads[k] = v.head;
+        lefts[k] = v.left;
+        rights[k] = v.right;
     }
-    m.nodes = base::wide16(n);
-    let entries = submission::entries(s);
-    for i in 0..entries {
-        let used = m.used;
-        let r = index(used);
-        m.registers[r] = base::wide16(submission::entry_at(s, i));
-        m.used = used + 1;
+}
+
+// Puts the knowledge into the first registers.
+fn put_knowledge(s: &[u8], registers: &mut [u16; 256])
+    requires { ⌜ SubmissionRead (now s) ⌝ }
+    requires { ⌜ length (now registers) ≡ 256 ⌝ }
+    ensures { λ _. ⌜ EntryRegisters (now (s .entry)) (now (registers .exit)) ⌝ }
+{
+    let n = submission::entries(s);
+    for i in 0..n {
+        let r = base::wide(i);
+        registers[r] = base::wide16(submission::entry_at(s, i));
     }
-    m
 }
 
 // The atom of the guess's kind with this name, as a node.
@@ -393,6 +393,31 @@ fn guess_node(s: &[u8], name: u16) -> Node
         left: name,
         right: 0,
     }
+}
+
+// Puts the guess v after the n terms, and its number, or that of the term where it was found, into register `used`.
+fn put_guess(
+    heads: &mut [u8; 384],
+    lefts: &mut [u16; 384],
+    rights: &mut [u16; 384],
+    registers: &mut [u16; 256],
+    n: u16,
+    used: u16,
+    v: Node,
+    found: Found,
+)
+    requires { ⌜ NodeArrays (now heads) (now lefts) (now rights) ⌝ }
+    requires { ⌜ length (now registers) ≡ 256 ⌝ }
+    requires { ⌜ n < 384 ⌝ }
+    requires { ⌜ used < 256 ⌝ }
+    ensures { λ _. ⌜ Placed (stateOf (now (heads .entry)) (now (lefts .entry)) (now (rights .entry)) n (now (registers .entry)) used) v found (stateOf (now (heads .exit)) (now (lefts .exit)) (now (rights .exit)) (nodesWith found n) (now (registers .exit)) (used + 1)) ⌝ }
+{
+    let k = index(n);
+    heads[k] = v.head;
+    lefts[k] = v.left;
+    rights[k] = v.right;
+    let i = index(used);
+    registers[i] = number_of(found, n);
 }
 
 // ---- Stale names.
@@ -457,16 +482,6 @@ fn is_marked(marks: &[u8; 256], found: Found) -> bool
         return marks[i] == 1;
     }
     false
-}
-
-// The number of a found node, or n.
-fn number_of(found: Found, n: u16) -> u16
-    ensures { λ r. ⌜ r ≡ numberOf found n ⌝ }
-{
-    match found {
-        Found::At(k) => k,
-        Found::Nothing => n,
-    }
 }
 
 // The lower of two numbers.
@@ -582,85 +597,84 @@ fn is_stale<'a>(
 
 // ---- The signal.
 
-// How many nodes there are with the guess's, which was found among the n terms or not.
-fn nodes_with(found: Found, n: u16) -> u16
-    requires { ⌜ n < 384 ⌝ }
-    ensures { λ r. ⌜ r ≡ nodesWith found n ⌝ }
-{
-    match found {
-        Found::At(_) => n,
-        Found::Nothing => n + 1,
-    }
-}
-
 fn bit(b: bool) -> u16
     ensures { λ r. ⌜ r ≡ cond b 1 0 ⌝ }
 {
     if b { 1 } else { 0 }
 }
 
-// The signal of the program's test, which asks for this relation.
-fn signal(program: &[u8], relation: Relation, m: Machine) -> u16
-    requires { ⌜ Testable m (testAt (now program)) ⌝ }
-    requires { ⌜ relationOf (testAt (now program) .rule) ≡ some (relationIs relation) ⌝ }
-    ensures { λ r. ⌜ r ≡ cond (signals (values m) (testAt (now (program .entry)))) 1 0 ⌝ }
+// The signal of a test that asks for this relation.
+fn signal<'a>(
+    heads: &'a [u8; 384],
+    lefts: &'a [u16; 384],
+    rights: &'a [u16; 384],
+    registers: &'a [u16; 256],
+    relation: Relation,
+    t: Test,
+) -> u16
+    requires { ⌜ getD (now registers) (t .left) 0 < 384 ⌝ }
+    requires { ⌜ getD (now registers) (t .right) 0 < 384 ⌝ }
+    ensures { λ r. ⌜ r ≡ cond (related (relationIs relation) (now (heads .entry)) (now (lefts .entry)) (now (rights .entry)) (getD (now (registers .entry)) (t .left) 0) (getD (now (registers .entry)) (t .right) 0)) 1 0 ⌝ }
 {
-    let t = program::test_at(program);
     let p = base::wide(t.left);
     let q = base::wide(t.right);
-    let a = m.registers[p];
-    let b = m.registers[q];
-    let x = node_at(&m.heads, &m.lefts, &m.rights, a);
-    let y = node_at(&m.heads, &m.lefts, &m.rights, b);
+    let a = registers[p];
+    let b = registers[q];
+    let x = node_at(heads, lefts, rights, a);
+    let y = node_at(heads, lefts, rights, b);
     match relation {
         Relation::Equal => bit(a == b),
         Relation::Inverse => bit(are_inverse(x, y)),
     }
 }
 
-// The signal of the program that starts from this state, which is that of the submission with the name for the guess.
-fn signalled(s: &[u8], name: u16, start: Machine, program: &[u8], relation: Relation) -> u16
-    requires { ⌜ SubmissionRead (now s) ⌝ }
-    requires { ⌜ Started (now s) name start ⌝ }
-    requires { ⌜ badProgram (now s) (now program) ≡ false ⌝ }
-    requires { ⌜ relationOf (testAt (now program) .rule) ≡ some (relationIs relation) ⌝ }
-    ensures { λ r. ⌜ r ≡ signalOf (now (s .entry)) name (now (program .entry)) ⌝ }
-{
-    let mut m = start;
-    let n = base::byte(program, 0);
-    for i in 0..n {
-        m = m.step(program::instruction_at(program, i));
-    }
-    signal(program, relation, m)
-}
-
-// Check 15, and then the signal.
+// Check 15, and then the signal. The start is written into lent arrays, since a state that is handed on by value is copied.
 fn tried(s: &[u8], name: u16, program: &[u8], relation: Relation) -> Answer
     requires { ⌜ SubmissionRead (now s) ⌝ }
     requires { ⌜ badProgram (now s) (now program) ≡ false ⌝ }
     requires { ⌜ relationOf (testAt (now program) .rule) ≡ some (relationIs relation) ⌝ }
     ensures { λ r. ⌜ answerOf r ≡ answered (failsIf (isStaleName (now (s .entry)) name) 15 0) (done (signalOf (now (s .entry)) name (now (program .entry)))) ⌝ }
 {
-    let mut m = with_knowledge(s);
-    let n = m.nodes;
-    let v = guess_node(s, name);
-    let found = find(&m.heads, &m.lefts, &m.rights, v, 0, n);
-    if is_stale(s, &m.heads, &m.lefts, &m.rights, v, found, n) {
+    let mut heads = [0u8; 384];
+    let mut lefts = [0u16; 384];
+    let mut rights = [0u16; 384];
+    let mut registers = [0u16; 256];
+    put_terms(s, &mut heads, &mut lefts, &mut rights);
+    put_knowledge(s, &mut registers);
+    let terms = base::wide16(submission::terms(s));
+    let g = guess_node(s, name);
+    let found = find(&heads, &lefts, &rights, g, 0, terms);
+    if is_stale(s, &heads, &lefts, &rights, g, found, terms) {
         return Answer::Refused {
             number: 15,
             place: 0,
         };
     }
-    // The place after the terms is free: where the guess is one of them, what is put there is no node.
-    let k = index(n);
-    m.heads[k] = v.head;
-    m.lefts[k] = v.left;
-    m.rights[k] = v.right;
-    m.nodes = nodes_with(found, n);
-    let used = m.used;
-    m.registers[index(used)] = number_of(found, n);
-    m.used = used + 1;
-    Answer::Done(signalled(s, name, m, program, relation))
+    let entries = base::wide16(submission::entries(s));
+    put_guess(
+        &mut heads,
+        &mut lefts,
+        &mut rights,
+        &mut registers,
+        terms,
+        entries,
+        g,
+        found,
+    );
+    let mut m = Machine {
+        heads,
+        lefts,
+        rights,
+        nodes: nodes_with(found, terms),
+        registers,
+        used: entries + 1,
+    };
+    let n = base::byte(program, 0);
+    for i in 0..n {
+        m = m.step(program::instruction_at(program, i));
+    }
+    let t = program::test_at(program);
+    Answer::Done(signal(&m.heads, &m.lefts, &m.rights, &m.registers, relation, t))
 }
 
 // The signal of a program on a submission, with a name for the guess; or the refusal of the first of checks 1 to 5, 13 and 15 that fails.

@@ -1,11 +1,8 @@
 -- `signal` meets its contract, a law for each relation.
-use Rattle.machine.proofs.theory.RunAnswer.{left-in, right-in, signal-equal, signal-inverse}
+use Rattle.machine.proofs.theory.RunAnswer.{test-read, test-equal, test-inverse}
 use borrow.Author.Needs.{needs}
 use Rattle.machine.proofs.signal.Statement.{statement}
 use Rattle.machine.proofs.signal.Tie as tie
-
-test-at-requires : tie.Need-test-at-requires
-test-at-requires c κs = search needs
 
 wide-requires : tie.Need-wide-requires
 wide-requires c κs = search needs
@@ -26,10 +23,10 @@ element-copy-out-b : tie.Need-element-copy-out-b
 element-copy-out-b c = search needs
 
 node-at-requires : tie.Need-node-at-requires
-node-at-requires c κs = search left-in
+node-at-requires c κs = search test-read
 
 node-at-requires-2 : tie.Need-node-at-requires-2
-node-at-requires-2 c κs = search right-in
+node-at-requires-2 c κs = search test-read
 
 enum-told : tie.Need-enum-told
 enum-told c = search needs
@@ -47,16 +44,15 @@ bit-requires-2 : tie.Need-bit-requires-2
 bit-requires-2 c κs = search needs
 
 returns : tie.Need-returns
-returns c = search signal-equal
+returns c = search test-equal
 
 returns-2 : tie.Need-returns-2
-returns-2 c = search signal-inverse
+returns-2 c = search test-inverse
 
 pub signal-spec : {M : Type 1} → statement M
 signal-spec =
     tie.close
     (tie.spec
-    test-at-requires
     wide-requires
     wide-requires-2
     mul-a

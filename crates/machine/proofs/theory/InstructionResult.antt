@@ -1,54 +1,43 @@
--- One instruction over the registers: the nodes that it reads, and the term that goes to the next register, a law for each case.
-use mathlib.Core.Path.{_≡_, refl, sym, ap, _∙_}
-use mathlib.Core.Bool.{_&&_}
+-- One instruction over the registers: the nodes that it reads, and the term that goes to the next register.
+use mathlib.Core.Path.{_≡_, ap₂}
 use Prim.Native.Nat.{ℕ, _+_, _≤_, _<_}
 use native.Mathlib.Omega.{arith}
 use mir.Syntax.{w16}
 use mir.Val.{Fits}
-use lib.Dec.{eqb}
-use lib.ListN.{getD}
+use lib.ListN.{length, getD, set}
+use Rattle.base.specs.Words.{first}
 use Rattle.base.proofs.Grow.{listed-at}
-use Rattle.term.specs.Term.{Side, pair, encryption, Head, make, part, decrypt, Term, pick, void}
-use Rattle.term.specs.Reduce.{op, cancelled}
-use Rattle.term.specs.Number.{rules, headOf}
-use Rattle.term.specs.Code.{ruleOf}
-use Rattle.term.proofs.Numbered.{Apart}
-use Rattle.term.proofs.Rule.{head-rule}
+use Rattle.term.specs.Term.{void}
+use Rattle.term.specs.Reduce.{op}
+use Rattle.term.specs.Number.{headOf}
+use Rattle.program.specs.Program.{Instruction, operand}
 use Rattle.machine.specs.declared.Machine.{Machine}
 use Rattle.machine.specs.declared.Operands.{Operands}
 use Rattle.machine.specs.declared.Found.{Found}
-use Rattle.machine.specs.declared.Found.the-variants.{Nothing}
-use Rattle.machine.specs.declared.Cipher.{Cipher}
-use Rattle.program.specs.Program.{Instruction, operand}
 use Rattle.machine.specs.Run.{executed}
-use Rattle.machine.specs.Code.{nodeIn, operandsIn, termAt, register, values, partsOfOne, matchNodes, when, valueOf, Placed, Gives, Executable}
-use Rattle.machine.proofs.theory.KeyNodes.{cipherOf}
-use Rattle.machine.proofs.theory.NodeReductions.{Ready, Reduct, form, right-part-in, result-gives, joined-reduct, parted-reduct, cancelled-reduct, other-reduct}
+use Rattle.machine.specs.Code.{stateOf, isNodeFrom, foundOf, orFound, reduced, valueOf, numberOf, nodesWith, Executable, Executed}
+use Rattle.machine.proofs.theory.StateMeaning.{operandsIn, nodeIn, termAt, register, values, Gives, Applies}
+use Rattle.machine.proofs.theory.NodeReductions.{Ready, form, right-part-in, result-gives, reduct}
+use Rattle.machine.proofs.theory.NodeSearch.{placed-so}
 
 -- the value of a register
 pub value-at : (m : Machine) (r : ℕ) → r < m .used → getD (values m) r void ≡ termAt m (register m r)
 unfolding values
 value-at m r l = listed-at (λ r. termAt m (register m r)) r (m .used) void l
 
--- the instruction i reads the nodes a and b in the state m
-pub record Reads (m : Machine) (i : Instruction) (a b : ℕ) : Type 0 where
-  pub ready : Ready m a b
-  pub rule : i .rule < rules
-  pub is : executed (values m) i ≡ op (headOf (i .rule)) (termAt m a) (termAt m b)
-
--- ---- an instruction
-module _ {m : Machine} {i : Instruction} {p q o : ℕ} (w : Executable m i) (e : p ≡ i .left) (f : q ≡ o) (g : o ≡ operand i) where
+-- ---- what the code reads and writes
+module _ {m : Machine} {i : Instruction} {p q t : ℕ} (w : Executable m i) (e : p ≡ i .left) (f : q ≡ t) (g : t ≡ operand i) where
   left-below : getD (m .registers) p 0 < m .nodes
-  left-below = rw e (w .sound .written _ (w .left))
+  left-below = rw e (w .left)
+
+  right-below : getD (m .registers) q 0 < m .nodes
+  right-below = rw (f, g) (w .right)
 
   pub left-behind : getD (m .registers) p 0 + 1 ≤ m .nodes
   left-behind = omega (arith, left-below)
 
   pub left-fits : Fits w16 (getD (m .registers) p 0 + 1)
   left-fits = record { fits = omega (arith, left-below, w .room) }
-
-  right-below : getD (m .registers) q 0 < m .nodes
-  right-below = rw (f, g) (w .sound .written _ (w .right))
 
   pub left-in : getD (m .registers) p 0 < 384
   left-in = omega (arith, left-below, w .room)
@@ -57,64 +46,36 @@ module _ {m : Machine} {i : Instruction} {p q o : ℕ} (w : Executable m i) (e :
   right-in = omega (arith, right-below, w .room)
 
   pub key-in : nodeIn m (getD (m .registers) p 0) .right < 384
-  key-in = right-part-in m (register m p) (w .sound) left-below (w .room)
+  key-in = rw e (w .key)
 
-  pub operands-read : Reads m i (getD (m .registers) p 0) (getD (m .registers) q 0)
-  unfolding executed
-  operands-read = record {
-    ready = record { sound = w .sound; left = left-below; right = right-below };
+  pub executed-so : {o : Operands} {x r : Found} {n k u a b : ℕ} → m .nodes < length (m .heads) → m .nodes < length (m .lefts) → m .nodes < length (m .rights) → m .used < length (m .registers) →
+      o ≡ operandsIn m (getD (m .registers) p 0) (getD (m .registers) q 0) → x ≡ reduced (headOf (i .rule)) o (getD (m .registers) q 0) →
+      r ≡ orFound x (foundOf (first (isNodeFrom (m .heads) (m .lefts) (m .rights) (form (i .rule) (getD (m .registers) p 0) (getD (m .registers) q 0)) (getD (m .registers) p 0 + 1)) n)) →
+      n ≡ m .nodes → k ≡ n → u ≡ m .used → a ≡ numberOf r n → b ≡ nodesWith r n →
+      Executed m i (stateOf (set (m .heads) k (i .rule)) (set (m .lefts) k (getD (m .registers) p 0)) (set (m .rights) k (getD (m .registers) q 0)) b (set (m .registers) u a) (m .used + 1))
+  executed-so {r = r} x y z u c d h j k l v s =
+      let value : r ≡ valueOf (m .heads) (m .lefts) (m .rights) (form (i .rule) (getD (m .registers) p 0) (getD (m .registers) q 0)) (m .nodes) = rw (h, d, c, j) in
+      let placed = rw value at (placed-so {m = m} {v = form (i .rule) (getD (m .registers) p 0) (getD (m .registers) q 0)} {o = r} x y z u j k l v s) in
+      rw (e, f, g) (rw (e, f, g) at placed)
+
+-- ---- what it gives
+module _ {m : Machine} {i : Instruction} (w : Applies m i) where
+  ready : Ready m (register m (i .left)) (register m (operand i))
+  ready = record { sound = w .sound; left = w .sound .written _ (w .left); right = w .sound .written _ (w .right) }
+
+  pub applies-executable : Executable m i
+  applies-executable = record {
     rule = w .rule;
-    is = cc (value-at m (i .left) (w .left), value-at m (operand i) (w .right));
+    left = ready .left;
+    right = ready .right;
+    key = right-part-in m (register m (i .left)) (w .sound) (ready .left) (w .room);
+    room = w .room;
+    space = w .space;
   }
 
--- ---- the result, by what the rule's word over the two nodes reduces to
--- r is the state m with that result in the next register: the node x, or the word's own node
-abbrev Results : Machine → Instruction → ℕ → ℕ → Found → Machine → Type 0
-Results m i a b x r = Placed m (form (i .rule) a b) (valueOf m (form (i .rule) a b) (a + 1) x) r
+  executed-is : executed (values m) i ≡ op (headOf (i .rule)) (termAt m (register m (i .left))) (termAt m (register m (operand i)))
+  unfolding executed
+  executed-is = ap₂ (op (headOf (i .rule))) (value-at m (i .left) (w .left)) (value-at m (operand i) (w .right))
 
-result : {m : Machine} {i : Instruction} {a b : ℕ} {x : Found} {r : Machine} (h : Head) → headOf (i .rule) ≡ h →
-    Results m i a b x r → Reads m i a b → Reduct m h a b x → Gives m (executed (values m) i) r
-result {x = x} h j v w d = rw (w .is) (result-gives (w .ready) (w .rule) x (rw j d) v)
-
--- a rule by its head; x is what its reduction found, f
-pub step-pair : {m : Machine} {i : Instruction} {a b : ℕ} {o : Operands} {x f : Found} {r : Machine} →
-    Results m i a b x r → Reads m i a b → x ≡ f →
-    i .rule ≡ ruleOf (make pair) → f ≡ when (partsOfOne (o .left) (o .right)) (o .left .left) → o ≡ operandsIn m a b →
-    Gives m (executed (values m) i) r
-step-pair v w k j q u = result (make pair) (ap headOf j ∙ head-rule (make pair)) v w (joined-reduct (w .ready) u (k ∙ q))
-
-pub step-part : (s : Side) {m : Machine} {i : Instruction} {a b : ℕ} {o : Operands} {x f : Found} {r : Machine} →
-    Results m i a b x r → Reads m i a b → x ≡ f →
-    i .rule ≡ ruleOf (part s) → f ≡ when (eqb (o .left .head) (ruleOf (make pair))) (pick s (o .left .left) (o .left .right)) → o ≡ operandsIn m a b →
-    Gives m (executed (values m) i) r
-step-part s v w k j q u = result (part s) (ap headOf j ∙ head-rule (part s)) v w (parted-reduct (w .ready) u s (k ∙ q))
-
--- the head h cancels the head g
-abbrev opened : Cipher → Head → Operands → ℕ → Found
-opened c g o b = when (eqb (o .left .head) (ruleOf g) && matchNodes c (o .left .right) b (o .key) (o .right)) (o .left .left)
-
-step-cancel : (c : Cipher) (g h : Head) → ((a b : Term) → op h a b ≡ cancelled (cipherOf c) g h a b) →
-    {m : Machine} {i : Instruction} {a b : ℕ} {o : Operands} {x f : Found} {r : Machine} →
-    Results m i a b x r → Reads m i a b → x ≡ f →
-    i .rule ≡ ruleOf h → f ≡ opened c g o b → o ≡ operandsIn m a b →
-    Gives m (executed (values m) i) r
-step-cancel c g h z v w k j q u = result h (ap headOf j ∙ head-rule h) v w (cancelled-reduct (w .ready) u c g h z (k ∙ q))
-
-pub step-encrypt : (c : Cipher) {m : Machine} {i : Instruction} {a b : ℕ} {o : Operands} {x f : Found} {r : Machine} →
-    Results m i a b x r → Reads m i a b → x ≡ f →
-    i .rule ≡ ruleOf (make (encryption (cipherOf c))) → f ≡ opened c (decrypt (cipherOf c)) o b → o ≡ operandsIn m a b →
-    Gives m (executed (values m) i) r
-unfolding op
-step-encrypt c = step-cancel c (decrypt (cipherOf c)) (make (encryption (cipherOf c))) (λ a b. refl)
-
-pub step-decrypt : (c : Cipher) {m : Machine} {i : Instruction} {a b : ℕ} {o : Operands} {x f : Found} {r : Machine} →
-    Results m i a b x r → Reads m i a b → x ≡ f →
-    i .rule ≡ ruleOf (decrypt (cipherOf c)) → f ≡ opened c (make (encryption (cipherOf c))) o b → o ≡ operandsIn m a b →
-    Gives m (executed (values m) i) r
-unfolding op
-step-decrypt c = step-cancel c (make (encryption (cipherOf c))) (decrypt (cipherOf c)) (λ a b. refl)
-
--- a rule without a reduction
-pub step-form : {n : ℕ} → Apart n 7 → {m : Machine} {i : Instruction} {a b : ℕ} {x : Found} {r : Machine} →
-    Results m i a b x r → Reads m i a b → x ≡ Nothing → n ≡ i .rule → Gives m (executed (values m) i) r
-step-form {n} z {x = x} v w k j = result {x = x} (headOf n) (ap headOf (sym j)) v w (rw k (other-reduct z (rw j (w .rule))))
+  pub executed-gives : {r : Machine} → Executed m i r → Gives m (executed (values m) i) r
+  executed-gives p = rw executed-is (result-gives ready (w .rule) _ (reduct (headOf (i .rule)) ready) p)

@@ -13,15 +13,12 @@ use Rattle.term.specs.Computed.{match?}
 use Rattle.term.proofs.Reduce.{says-test}
 use Rattle.term.proofs.Table.{decode-inj}
 use Rattle.machine.specs.declared.Node.{Node}
-use Rattle.machine.specs.declared.Machine.{Machine}
 use Rattle.machine.specs.declared.Cipher.{Cipher}
 use Rattle.machine.specs.declared.Cipher.the-variants.{Symmetric, Asymmetric}
-use Rattle.machine.specs.Code.{atomHead, nodeIn, inverseNodes, matchNodes, termAt, SoundState}
+use Rattle.machine.specs.declared.Machine.{Machine}
+use Rattle.machine.specs.Code.{cipherOf, atomHead, inverseNodes, matchNodes}
+use Rattle.machine.proofs.theory.StateMeaning.{nodeIn, termAt, SoundState}
 use Rattle.machine.proofs.theory.NodeRecords.{atom-term, atom-node}
-
-abbrev pub cipherOf : Cipher → words.Cipher
-cipherOf Symmetric = symmetric
-cipherOf Asymmetric = asymmetric
 
 -- a test that says what was decided is that decision
 decided : {P : Type 0} {b : Bool} (d : Dec P) → Says b P → b ≡ ite d true false
@@ -69,14 +66,14 @@ module _ {m : Machine} {k j : ℕ} (w : SoundState m) (l : k < m .nodes) (n : j 
   pub inverse-keys : {x y : Node} → x ≡ nodeIn m k → y ≡ nodeIn m j → inverseNodes x y ≡ ite (match? asymmetric (termAt m k) (termAt m j)) true false
   inverse-keys e g = rw (e, g) (decided (match? asymmetric _ _) says-inverse)
 
-  pub keys-match : (c : Cipher) {x y : Node} → x ≡ nodeIn m k → y ≡ nodeIn m j → matchNodes c k j x y ≡ ite (match? (cipherOf c) (termAt m k) (termAt m j)) true false
-  keys-match Symmetric e g = decided (match? symmetric _ _) (λ e. sym (ap (termAt m) (eqb-true k j e)), λ u. eq-eqb k j (sym (decode-inj (w .table) j k n l u)))
-  keys-match Asymmetric e g = inverse-keys e g
+  pub keys-match : (c : words.Cipher) {x y : Node} → x ≡ nodeIn m k → y ≡ nodeIn m j → matchNodes c k j x y ≡ ite (match? c (termAt m k) (termAt m j)) true false
+  keys-match symmetric e g = decided (match? symmetric _ _) (λ e. sym (ap (termAt m) (eqb-true k j e)), λ u. eq-eqb k j (sym (decode-inj (w .table) j k n l u)))
+  keys-match asymmetric e g = inverse-keys e g
 
 -- the test of the code, by its operation
 module _ {c : Cipher} (k j : ℕ) (x y : Node) where
-  pub match-equal : c ≡ Symmetric → eqb k j ≡ matchNodes c k j x y
+  pub match-equal : c ≡ Symmetric → eqb k j ≡ matchNodes (cipherOf c) k j x y
   match-equal e = rw e
 
-  pub match-inverse : {b : Bool} → c ≡ Asymmetric → b ≡ inverseNodes x y → b ≡ matchNodes c k j x y
+  pub match-inverse : {b : Bool} → c ≡ Asymmetric → b ≡ inverseNodes x y → b ≡ matchNodes (cipherOf c) k j x y
   match-inverse e f = rw e f

@@ -9,7 +9,8 @@ use Rattle.term.specs.Code.{ruleOf}
 use Rattle.term.proofs.Rule.{head-rule, rule-below}
 use Rattle.term.proofs.Table.{part-below, node-of, branch-of, leaf-of}
 use Rattle.machine.specs.declared.Machine.{Machine}
-use Rattle.machine.specs.Code.{atoms, atomHead, recordFor, nodeFor, nodeIn, nodeAt, termAt, SoundState}
+use Rattle.machine.specs.Code.{atoms, atomHead, recordFor, nodeFor}
+use Rattle.machine.proofs.theory.StateMeaning.{nodeIn, nodeAt, termAt, SoundState}
 
 -- ---- nodes and records
 -- the record of a node of this head

@@ -8,28 +8,28 @@ use native.Mathlib.Omega.{arith}
 use lib.Dec.{eqb}
 use borrow.Author.Tests.{lt-ltb, eq-eqb, ne-eqb}
 use Rattle.base.proofs.Says.{Says, says-true, says-eqb, says-and, denies}
-use Rattle.term.specs.{Term.Cipher, Term.symmetric, Term.asymmetric, Term.Side, Term.left, Term.right, Term.pair, Term.encryption, Term.Head, Term.make, Term.part, Term.decrypt, Term.Term, Term.atom, Term.node, Computed.head?, Computed.term?, Term.Match}
-use Rattle.base.specs.Words.{ite, grow}
+use Rattle.term.specs.{Term.Cipher, Term.symmetric, Term.asymmetric, Term.Side, Term.left, Term.right, Term.pair, Term.hash, Term.encryption, Term.Head, Term.make, Term.part, Term.decrypt, Term.Term, Term.atom, Term.node, Computed.head?, Computed.term?, Term.Match}
+use Rattle.base.specs.Words.{ite, grow, first}
 use Rattle.term.specs.Code.{Below, ruleOf}
 use Rattle.term.specs.Computed.{match?}
 use Rattle.term.specs.Reduce.{cancelled, paired, parted, op}
 use Rattle.term.specs.Term.{pick, Rec, leaf, branch, message}
 use Rattle.term.specs.Number.{rules, headOf}
 use Rattle.term.proofs.Reduce.{says-test}
-use Rattle.term.proofs.Numbered.{same-below, Apart, Arms, choice}
+use Rattle.term.proofs.Numbered.{same-below, Arms, choice}
 use Rattle.term.proofs.Rule.{rule-head}
 use Rattle.term.proofs.Table.{decode-inj}
 use Rattle.machine.specs.declared.Node.{Node}
-use Rattle.machine.specs.declared.Machine.{Machine}
 use Rattle.machine.specs.declared.Operands.{Operands}
 use Rattle.machine.specs.declared.Found.{Found}
 use Rattle.machine.specs.declared.Found.the-variants.{At, Nothing}
-use Rattle.machine.specs.declared.Cipher.{Cipher as CipherRead}
-use Rattle.machine.specs.Code.{atoms, recordFor, nodeFor, nodeOf, operandsOf, operandsIn, nodeIn, nodeAt, valueOf, partsOfOne, matchNodes, when, termAt, SoundState, Placed, Gives}
+use Rattle.machine.specs.declared.Machine.{Machine}
+use Rattle.machine.specs.Code.{atoms, recordFor, nodeFor, nodeOf, operandsOf, foundOf, orFound, isNodeFrom, reduced, partsOfOne, matchNodes, when, Placed}
+use Rattle.machine.proofs.theory.StateMeaning.{operandsIn, nodeIn, nodeAt, termAt, SoundState, Gives}
 use Rattle.machine.proofs.theory.NodeRecords.{compound-below, compound-term, compound-node}
 use Rattle.machine.proofs.theory.NodeSearch.{same-node, Absent, placed-there, placed-gives}
 use Rattle.machine.proofs.theory.StateGrowth.{isNode, Fit}
-use Rattle.machine.proofs.theory.KeyNodes.{cipherOf, keys-match}
+use Rattle.machine.proofs.theory.KeyNodes.{keys-match}
 
 -- the numbers of two nodes of the state m
 pub record Ready (m : Machine) (a b : ℕ) : Type 0 where
@@ -38,9 +38,9 @@ pub record Ready (m : Machine) (a b : ℕ) : Type 0 where
   pub right : b < m .nodes
 
 -- what the head h over the nodes a and b reduces to in the state m, where it does
-pub record Reduct (m : Machine) (h : Head) (a b : ℕ) (reduced : Found) : Type 0 where
-  pub there : (n : ℕ) → reduced ≡ At n → (n < m .nodes) × (op h (termAt m a) (termAt m b) ≡ termAt m n)
-  pub nothing : reduced ≡ Nothing → op h (termAt m a) (termAt m b) ≡ node h (termAt m a) (termAt m b)
+pub record Reduct (m : Machine) (h : Head) (a b : ℕ) (x : Found) : Type 0 where
+  pub there : (n : ℕ) → x ≡ At n → (n < m .nodes) × (op h (termAt m a) (termAt m b) ≡ termAt m n)
+  pub nothing : x ≡ Nothing → op h (termAt m a) (termAt m b) ≡ node h (termAt m a) (termAt m b)
 
 -- ---- a rule's own node
 abbrev pub form : ℕ → ℕ → ℕ → Node
@@ -69,8 +69,8 @@ module _ {m : Machine} {rule a b : ℕ} (w : Ready m a b) (l : rule < rules) whe
           omega (arith, z .0)
 
   -- the result: what the rule's word reduces to, or its own node
-  pub result-gives : {r : Machine} (reduced : Found) → Reduct m (headOf rule) a b reduced →
-      Placed m (form rule a b) (valueOf m (form rule a b) (a + 1) reduced) r → Gives m (op (headOf rule) (termAt m a) (termAt m b)) r
+  pub result-gives : {r : Machine} (x : Found) → Reduct m (headOf rule) a b x →
+      Placed m (form rule a b) (orFound x (foundOf (first (isNodeFrom (m .heads) (m .lefts) (m .rights) (form rule a b) (a + 1)) (m .nodes)))) r → Gives m (op (headOf rule) (termAt m a) (termAt m b)) r
   result-gives (At n) d v =
       let (l, t) = d .there n refl in
       rw t (placed-there {v = form rule a b} (w .sound) l v)
@@ -135,28 +135,28 @@ unfolding cancelled
 cancel-some c inner outer x k b u = if-pos (Dec·and (head? inner inner) (match? c k b)) (refl, u) x (node outer (node inner x k) b)
 
 -- the head h cancels the head g
-module _ (c : CipherRead) (g h : Head) (steps : (a b : Term) → op h a b ≡ cancelled (cipherOf c) g h a b) where
+module _ (c : Cipher) (g h : Head) (steps : (a b : Term) → op h a b ≡ cancelled c g h a b) where
   cancel-reduct : {m : Machine} {a b : ℕ} {x k y : Node} {r : Found} → Ready m a b → x ≡ nodeIn m a → k ≡ nodeIn m (x .right) → y ≡ nodeIn m b →
       r ≡ when (eqb (x .head) (ruleOf g) && matchNodes c (x .right) b k y) (x .left) → Reduct m h a b r
   cancel-reduct {m} {a} {b} {x} {k} {y} w e f i q = rw q (when-reduct _ _ here other)
     where
-      match-is : x .head ≡ ruleOf g → matchNodes c (x .right) b k y ≡ ite (match? (cipherOf c) (termAt m (x .right)) (termAt m b)) true false
+      match-is : x .head ≡ ruleOf g → matchNodes c (x .right) b k y ≡ ite (match? c (termAt m (x .right)) (termAt m b)) true false
       match-is u = keys-match (w .sound) (right-below g (w .sound) (w .left) e u) (w .right) c f i
 
       here : (eqb (x .head) (ruleOf g) && matchNodes c (x .right) b k y) ≡ true → (x .left < m .nodes) × (op h (termAt m a) (termAt m b) ≡ termAt m (x .left))
       here t =
           let (u, v) = says-and _ _ (says-eqb (x .head) (ruleOf g)) (says-true (matchNodes c (x .right) b k y)) .0 t in (
             left-below g (w .sound) (w .left) e u,
-            steps _ _ ∙ ap (λ t. cancelled (cipherOf c) g h t (termAt m b)) (term-is g (w .sound) (w .left) e u)
-                ∙ cancel-some (cipherOf c) g h _ _ _ (says-test (match? (cipherOf c) _ _) .0 (sym (match-is u) ∙ v)),
+            steps _ _ ∙ ap (λ t. cancelled c g h t (termAt m b)) (term-is g (w .sound) (w .left) e u)
+                ∙ cancel-some c g h _ _ _ (says-test (match? c _ _) .0 (sym (match-is u) ∙ v)),
           )
 
       other : (eqb (x .head) (ruleOf g) && matchNodes c (x .right) b k y) ≡ false → op h (termAt m a) (termAt m b) ≡ node h (termAt m a) (termAt m b)
       other t =
-          steps _ _ ∙ cancel-none (cipherOf c) g h _ _ (λ z j s u.
+          steps _ _ ∙ cancel-none c g h _ _ (λ z j s u.
           let d = read-node (w .sound) (w .left) e s in
           let o : matchNodes c (x .right) b k y ≡ false = rw (eq-eqb _ _ (d .0)) at t in
-          denies _ (says-test (match? (cipherOf c) _ _)) .0 (sym (match-is (d .0)) ∙ o) (subst (λ z. Match (cipherOf c) z (termAt m b)) (sym (d .2)) u))
+          denies _ (says-test (match? c _ _)) .0 (sym (match-is (d .0)) ∙ o) (subst (λ z. Match c z (termAt m b)) (sym (d .2)) u))
 
 -- ---- a pair of parts
 pair-none : (a b : Term) → ((x p q : Term) → a ≡ node (part left) x p → b ≡ node (part right) x q → ⊥) → paired a b ≡ node (make pair) a b
@@ -232,40 +232,29 @@ part-reduct {m} {a} {b} {x} s w e q = rw q (when-reduct _ _ here other)
     other : eqb (x .head) (ruleOf (make pair)) ≡ false → parted s (termAt m a) (termAt m b) ≡ node (part s) (termAt m a) (termAt m b)
     other t = part-none s _ _ (λ y z f. denies _ (says-eqb (x .head) (ruleOf (make pair))) .0 t (read-node (w .sound) (w .left) e f .0))
 
--- ---- the reductions by the operands that were read
-module _ {m : Machine} {a b : ℕ} {o : Operands} {r : Found} (w : Ready m a b) (e : o ≡ operandsIn m a b) where
-  pub joined-reduct : r ≡ when (partsOfOne (o .left) (o .right)) (o .left .left) → Reduct m (make pair) a b r
-  joined-reduct q = pair-reduct w (ap (λ z. z .left) e) (ap (λ z. z .right) e) q
+-- ---- the reductions
+-- what the head h over the nodes a and b reduces to
+pub reduct : {m : Machine} {a b : ℕ} (h : Head) → Ready m a b → Reduct m h a b (reduced h (operandsIn m a b) b)
+unfolding op
+reduct (make pair) w = pair-reduct w refl refl refl
+reduct (make hash) w = record { there = λ k e. absurd (let z : _≡_ {A = ℕ} 0 1 = cc in omega arith); nothing = λ u. refl }
+reduct (make (encryption c)) w = cancel-reduct c (decrypt c) (make (encryption c)) (λ a b. refl) w refl refl refl refl
+reduct (part s) w = part-reduct s w refl refl
+reduct (decrypt c) w = cancel-reduct c (make (encryption c)) (decrypt c) (λ a b. refl) w refl refl refl refl
 
-  pub parted-reduct : (s : Side) → r ≡ when (eqb (o .left .head) (ruleOf (make pair))) (pick s (o .left .left) (o .left .right)) → Reduct m (part s) a b r
-  parted-reduct s q = part-reduct s w (ap (λ z. z .left) e) q
+-- the rules' reductions, as the code has them: the arms, and no other rule reduces
+module _ (o : Operands) (j : ℕ) where
+  abbrev pub reductions : Arms Found
+  reductions =
+      (ruleOf (make pair), reduced (make pair) o j)
+      ∷ (ruleOf (part left), reduced (part left) o j)
+      ∷ (ruleOf (part right), reduced (part right) o j)
+      ∷ (ruleOf (make (encryption symmetric)), reduced (make (encryption symmetric)) o j)
+      ∷ (ruleOf (decrypt symmetric), reduced (decrypt symmetric) o j)
+      ∷ (ruleOf (make (encryption asymmetric)), reduced (make (encryption asymmetric)) o j)
+      ∷ (ruleOf (decrypt asymmetric), reduced (decrypt asymmetric) o j)
+      ∷ []
 
-  pub cancelled-reduct : (c : CipherRead) (g h : Head) → ((a b : Term) → op h a b ≡ cancelled (cipherOf c) g h a b) →
-      r ≡ when (eqb (o .left .head) (ruleOf g) && matchNodes c (o .left .right) b (o .key) (o .right)) (o .left .left) → Reduct m h a b r
-  cancelled-reduct c g h z q =
-      cancel-reduct c g h z w (ap (λ z. z .left) e) (ap (λ z. z .key) e ∙ ap (nodeIn m) (sym (ap (λ z. z .left .right) e))) (ap (λ z. z .right) e) q
-
--- ---- a rule with no reduction
--- what a rule's step is: its reduction, or the term alone
-abbrev reductions : Term → Term → Arms Term
-reductions a b =
-    (ruleOf (make pair), paired a b)
-    ∷ (ruleOf (part left), parted left a b)
-    ∷ (ruleOf (part right), parted right a b)
-    ∷ (ruleOf (make (encryption symmetric)), cancelled symmetric (decrypt symmetric) (make (encryption symmetric)) a b)
-    ∷ (ruleOf (decrypt symmetric), op (decrypt symmetric) a b)
-    ∷ (ruleOf (make (encryption asymmetric)), cancelled asymmetric (decrypt asymmetric) (make (encryption asymmetric)) a b)
-    ∷ (ruleOf (decrypt asymmetric), op (decrypt asymmetric) a b)
-    ∷ []
-
-step-table : (n : ℕ) → n < rules → (a b : Term) → op (headOf n) a b ≡ choice (reductions a b) (node (headOf n) a b) n
-unfolding op headOf grow
-step-table n l a b = same-below (λ n. op (headOf n) a b) (λ n. choice (reductions a b) (node (headOf n) a b) n) rules refl n l
-
--- a rule without an arm only forms its term
-pub other-reduct : {m : Machine} {n a b : ℕ} → Apart n 7 → n < rules → Reduct m (headOf n) a b Nothing
-other-reduct {m} {n} {a} {b} (((((((_, c), d), e), f), g), h), i) l = record {
-  there = λ k e. absurd (let z : _≡_ {A = ℕ} 0 1 = cc in omega arith);
-  nothing = λ u. step-table n l (termAt m a) (termAt m b)
-      ∙ rw (ne-eqb _ _ c, ne-eqb _ _ d, ne-eqb _ _ e, ne-eqb _ _ f, ne-eqb _ _ g, ne-eqb _ _ h, ne-eqb _ _ i);
-}
+  pub reduction : {n : ℕ} {r f : Found} → n < rules → r ≡ f → f ≡ choice reductions Nothing n → r ≡ reduced (headOf n) o j
+  unfolding headOf grow
+  reduction {n} l d e = d ∙ e ∙ sym (same-below (λ n. reduced (headOf n) o j) (choice reductions Nothing) rules refl n l)

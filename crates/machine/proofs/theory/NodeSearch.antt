@@ -15,10 +15,11 @@ use Rattle.base.proofs.Order.{lt-or-ge}
 use Rattle.base.proofs.Says.{Says, says-true, says-eqb, says-and}
 use Rattle.term.specs.Term.{public, private, message}
 use Rattle.machine.specs.declared.Node.{Node}
-use Rattle.machine.specs.declared.Machine.{Machine}
 use Rattle.machine.specs.declared.Found.{Found}
 use Rattle.machine.specs.declared.Found.the-variants.{At, Nothing}
-use Rattle.machine.specs.Code.{atomHead, recordFor, nodeOf, termAt, sameNode, isNodeFrom, foundOf, orFound, inverseNodes, SoundState, placed, Placed, Gives, numberOf, nodesWith}
+use Rattle.machine.specs.declared.Machine.{Machine}
+use Rattle.machine.specs.Code.{atomHead, recordFor, stateOf, nodeOf, sameNode, isNodeFrom, foundOf, orFound, inverseNodes, placed, Placed, numberOf, nodesWith}
+use Rattle.machine.proofs.theory.StateMeaning.{termAt, SoundState, Gives}
 use Rattle.machine.proofs.theory.StateGrowth.{isNode, Fit, register-stored, node-added, spare, spare-terms, spare-sound, spare-values}
 
 -- ---- looking for a node
@@ -59,15 +60,15 @@ pub nodes-more : (n : ℕ) {o : Found} → o ≡ Nothing → n + 1 ≡ nodesWith
 nodes-more n e = rw e
 
 -- as the code writes it
-pub placed-so : {m : Machine} {v : Node} {f o : Found} {n k i a b : ℕ} → m .nodes < length (m .heads) → m .nodes < length (m .lefts) → m .nodes < length (m .rights) → m .used < length (m .registers) →
-    f ≡ o → n ≡ m .nodes → k ≡ n → i ≡ m .used → a ≡ numberOf f n → b ≡ nodesWith f n →
-    Placed m v o (record { heads = set (m .heads) k (v .head); lefts = set (m .lefts) k (v .left); rights = set (m .rights) k (v .right); nodes = b; registers = set (m .registers) i a; used = m .used + 1 })
-placed-so x y z u h c d e f g = record { room = record { heads = x; lefts = y; rights = z }; space = u; is = rw (g, f, e, d, c, h) }
+pub placed-so : {m : Machine} {v : Node} {o : Found} {n k i a b : ℕ} → m .nodes < length (m .heads) → m .nodes < length (m .lefts) → m .nodes < length (m .rights) → m .used < length (m .registers) →
+    n ≡ m .nodes → k ≡ n → i ≡ m .used → a ≡ numberOf o n → b ≡ nodesWith o n →
+    Placed m v o (stateOf (set (m .heads) k (v .head)) (set (m .lefts) k (v .left)) (set (m .rights) k (v .right)) b (set (m .registers) i a) (m .used + 1))
+placed-so x y z u c d e f g = record { room = record { heads = x; lefts = y; rights = z }; space = u; is = rw (g, f, e, d, c) }
 
 -- a node of the state in the next register
 pub placed-there : {m : Machine} {v : Node} {i : ℕ} → SoundState m → i < m .nodes → {r : Machine} → Placed m v (At i) r → Gives m (termAt m i) r
 placed-there {m} {v} {i} s l w =
-    let p = register-stored {m = spare m v (w .room)} {n = i} (spare-sound m v (w .room) s) l (w .space) refl in
+    let p = register-stored {m = spare m v (w .room)} {n = i} (spare-sound m v (w .room) s) l (w .space) in
     rw (w .is) (record {
       holds = record { sound = p .holds .sound; is = p .holds .is ∙ ap₂ (λ vs t. vs ++ t ∷ []) (spare-values m v (w .room)) (spare-terms m v (w .room) i) };
       used = p .used;

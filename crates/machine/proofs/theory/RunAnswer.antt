@@ -1,8 +1,8 @@
 -- A run: the instructions of a program that passes check 13, its test, and the answer.
 use mathlib.Core.Logic.{_↔_}
-use mathlib.Core.Path.{_≡_, sym, ap, ap₂, _∙_}
+use mathlib.Core.Path.{_≡_, refl, sym, ap, ap₂, _∙_}
 use mathlib.Core.Bool.{Bool, true, false, cond}
-use mathlib.Core.Option.{Option, some}
+use mathlib.Core.Option.{some}
 use mathlib.Core.List.{List, [], _∷_, _++_}
 use Prim.Native.Nat.{ℕ, _+_, _≤_, _<_}
 use native.Mathlib.Numerals.{add-one}
@@ -24,7 +24,6 @@ use Rattle.submission.proofs.theory.{ReadingRows.tells-1-to-5, StaleTests.says-
 use Rattle.base.specs.Computed.{passes, failsIf, andThen, answered}
 use Rattle.base.specs.Code.{checkOf}
 use Rattle.machine.specs.declared.Node.{Node}
-use Rattle.machine.specs.declared.Machine.{Machine}
 use Rattle.base.specs.declared.Answer.{Answer}
 use Rattle.program.specs.declared.Asked.{Asked}
 use Rattle.program.specs.declared.Asked.the-variants.{Asks, Nothing}
@@ -36,8 +35,10 @@ use Rattle.program.specs.Program.{relationOf, Instruction, instructionAt, testA
 use Rattle.program.specs.Code.{relationIn, asked}
 use Rattle.program.proofs.theory.Check13.{right-fits, operand-fits, program-iff, program-good, program-bad}
 use Rattle.machine.specs.Run.{executed, registers, holds, signals, signal, StaleName, programRows, runRows}
-use Rattle.machine.specs.Code.{nodeIn, inverseNodes, termAt, register, values, Gives, Executable, guessNode, Started, Running, Testable}
-use Rattle.machine.proofs.theory.InstructionResult.{value-at}
+use Rattle.machine.specs.declared.Machine.{Machine}
+use Rattle.machine.specs.Code.{nodeOf, inverseNodes, Executable, Executed, guessNode, related}
+use Rattle.machine.proofs.theory.StateMeaning.{termAt, register, values, Gives, Applies, Started, Running, Testable}
+use Rattle.machine.proofs.theory.InstructionResult.{value-at, applies-executable, executed-gives}
 use Rattle.machine.proofs.theory.KeyNodes.{one-term, inverse-keys}
 use Rattle.machine.proofs.theory.StartState.{facts}
 use Rattle.submission.specs.Computed.{checks1to5}
@@ -45,13 +46,13 @@ use Rattle.program.specs.Computed.{badProgram}
 use Rattle.machine.specs.Computed.{isStaleName, runAnswer}
 
 -- ---- the instructions
-pub running-none : (P : List ℕ) {s : List ℕ} {name : ℕ} {m : Machine} → Started s name m → Running s name P 0 m
+running-none : (P : List ℕ) {s : List ℕ} {name : ℕ} {m : Machine} → Started s name m → Running s name P 0 m
 unfolding registers grow
 running-none P w = record { holds = w .holds; used = omega (arith, w .used); few = omega (arith, w .few) }
 
 module _ {s P : List ℕ} {name i n : ℕ} {m : Machine} {x : Instruction} (w : SubmissionRead s) (g : badProgram s P ≡ false) (h : Running s name P i m) (l : i < n) (c : n ≡ byte P 0) (e : x ≡ instructionAt P i) where
-  pub instruction-executable : Executable m x
-  instruction-executable =
+  instruction-applies : Applies m x
+  instruction-applies =
       let z = program-iff s P .0 g in
       let r = z .rules-right i (omega arith) in
       let a = z .registers-right i (omega arith) .0 in
@@ -65,7 +66,7 @@ module _ {s P : List ℕ} {name i n : ℕ} {m : Machine} {x : Instruction} (w : 
         space = omega (arith, h .used, z .few, facts w .read .entries-most);
       }
 
-  pub running-more : {r : Machine} → Gives m (executed (values m) x) r → Running s name P (i + 1) r
+  running-more : {r : Machine} → Gives m (executed (values m) x) r → Running s name P (i + 1) r
   unfolding registers grow
   running-more d = record {
     holds = record {
@@ -76,48 +77,90 @@ module _ {s P : List ℕ} {name i n : ℕ} {m : Machine} {x : Instruction} (w : 
     few = omega (arith, d .few, h .few);
   }
 
-pub running-all : {s P : List ℕ} {name i n : ℕ} {m : Machine} → Running s name P i m → i ≤ n → n ≤ i → n ≡ byte P 0 → Running s name P (byte P 0) m
-running-all {s} {P} {name} {i} {n} h a b c = let e : i ≡ byte P 0 = omega arith in rw (← e) h
-
 -- ---- the test
-module _ (P : List ℕ) {m : Machine} {u : Instruction} {p q : ℕ} (w : Testable m (testAt P)) (z : u ≡ testAt P) (e : p ≡ u .left) (f : q ≡ u .right) where
-  pub left-below : getD (m .registers) p 0 < m .nodes
-  left-below = rw (e, z) (w .sound .written _ (w .left))
+pub test-read : (regs : List ℕ) {p k : ℕ} → p ≡ k → getD regs k 0 < 384 → getD regs p 0 < 384
+test-read regs e l = rw e l
 
-  pub right-below : getD (m .registers) q 0 < m .nodes
-  right-below = rw (f, z) (w .sound .written _ (w .right))
+-- by the nodes that the code reads
+module _ (hs ls rs regs : List ℕ) {p q k j : ℕ} (e : p ≡ k) (f : q ≡ j) {l : RelationGiven} {r : ℕ} where
+  pub test-equal : l ≡ Equal → r ≡ cond (eqb (getD regs p 0) (getD regs q 0)) 1 0 → r ≡ cond (related (relationIs l) hs ls rs (getD regs k 0) (getD regs j 0)) 1 0
+  test-equal i u = rw (u, e, f, i)
 
-  pub left-in : getD (m .registers) p 0 < 384
-  left-in = omega (arith, left-below, w .room)
+  pub test-inverse : {b : Bool} {x y : Node} → l ≡ Inverse → x ≡ nodeOf hs ls rs (getD regs p 0) → y ≡ nodeOf hs ls rs (getD regs q 0) → b ≡ inverseNodes x y → r ≡ cond b 1 0 →
+      r ≡ cond (related (relationIs l) hs ls rs (getD regs k 0) (getD regs j 0)) 1 0
+  test-inverse i a c v u = rw (u, v, a, c, e, f, i)
 
-  pub right-in : getD (m .registers) q 0 < 384
-  right-in = omega (arith, right-below, w .room)
+module _ {m : Machine} {t : Instruction} (w : Testable m t) where
+  left-below : register m (t .left) < m .nodes
+  left-below = w .sound .written _ (w .left)
 
-  -- what the test's relation says of the two values
-  tested : {b : Bool} {r : ℕ} (o : Option Relation) → relationOf (u .rule) ≡ o → b ≡ holds o (termAt m (register m p)) (termAt m (register m q)) → r ≡ cond b 1 0 →
-      r ≡ cond (signals (values m) (testAt P)) 1 0
+  right-below : register m (t .right) < m .nodes
+  right-below = w .sound .written _ (w .right)
+
+  said : (ρ : Relation) → related ρ (m .heads) (m .lefts) (m .rights) (register m (t .left)) (register m (t .right)) ≡ holds (some ρ) (termAt m (register m (t .left))) (termAt m (register m (t .right)))
+  said equal = one-term (w .sound) left-below right-below
+  said inverses = inverse-keys (w .sound) left-below right-below refl refl
+
+  -- what the test's relation says of the two nodes is what it says of the two values
+  tested : (ρ : Relation) → relationOf (t .rule) ≡ some ρ → signals (values m) t ≡ related ρ (m .heads) (m .lefts) (m .rights) (register m (t .left)) (register m (t .right))
   unfolding signals
-  tested {b} o j v k =
-      let t : signals (values m) (testAt P) ≡ b = cc (value-at m _ (w .left), value-at m _ (w .right)) in
-      k ∙ rw t
-
-  module _ {l : RelationGiven} (j : relationOf (testAt P .rule) ≡ some (relationIs l)) where
-    asks : {v : RelationGiven} → l ≡ v → relationOf (u .rule) ≡ some (relationIs v)
-    asks k = rw z (j ∙ ap (λ v. some (relationIs v)) k)
-
-    pub signal-equal : {r : ℕ} → l ≡ Equal → r ≡ cond (eqb (getD (m .registers) p 0) (getD (m .registers) q 0)) 1 0 → r ≡ cond (signals (values m) (testAt P)) 1 0
-    signal-equal k = tested (some equal) (asks k) (one-term (w .sound) left-below right-below)
-
-    pub signal-inverse : {b : Bool} {r : ℕ} {x y : Node} → l ≡ Inverse → x ≡ nodeIn m (getD (m .registers) p 0) → y ≡ nodeIn m (getD (m .registers) q 0) → b ≡ inverseNodes x y → r ≡ cond b 1 0 →
-        r ≡ cond (signals (values m) (testAt P)) 1 0
-    signal-inverse k a c v = tested (some inverses) (asks k) (v ∙ inverse-keys (w .sound) left-below right-below a c)
+  tested ρ j = rw (j, value-at m _ (w .left), value-at m _ (w .right)) (sym (said ρ))
 
 -- after the last instruction it can be made
-pub test-ready : (s P : List ℕ) {name i n : ℕ} {m : Machine} → badProgram s P ≡ false → Running s name P i m → i ≤ n → n ≤ i → n ≡ byte P 0 → Testable m (testAt P)
-test-ready s P g r a b c =
-    let h = running-all r a b c in
+test-ready : (s P : List ℕ) {name : ℕ} {m : Machine} → badProgram s P ≡ false → Running s name P (byte P 0) m → Testable m (testAt P)
+test-ready s P g h =
     let z = program-iff s P .0 g in
     record { sound = h .holds .sound; left = rw (h .used) (z .test-right .0); right = rw (h .used) (right-fits _ _ (testAt P) (z .test-right)); room = omega (arith, h .few, z .few) }
+
+-- ---- the loop of `tried`
+-- the state m after i of the n instructions, of a name that is not stale
+pub record Going (s : List ℕ) (name : ℕ) (P : List ℕ) (ρ : Relation) (n i : ℕ) (m : Machine) : Type 0 where
+  pub read : SubmissionRead s
+  pub good : badProgram s P ≡ false
+  pub asks : relationOf (testAt P .rule) ≡ some ρ
+  pub fresh : isStaleName s name ≡ false
+  pub count : n ≡ byte P 0
+  pub within : i ≤ n
+  pub running : Running s name P i m
+
+module _ {s P : List ℕ} {name n i : ℕ} {ρ : Relation} {m : Machine} (h : Going s name P ρ n i m) where
+  module _ {x : Instruction} (l : i < n) (e : x ≡ instructionAt P i) where
+    applies : Applies m x
+    applies = instruction-applies (h .read) (h .good) (h .running) l (h .count) e
+
+    pub going-executable : Executable m x
+    going-executable = applies-executable applies
+
+    pub going-more : {r : Machine} → Executed m x r → Going s name P ρ n (i + 1) r
+    going-more d = record {
+      read = h .read;
+      good = h .good;
+      asks = h .asks;
+      fresh = h .fresh;
+      count = h .count;
+      within = omega arith;
+      running = running-more (h .read) (h .good) (h .running) l (h .count) e (executed-gives applies d);
+    }
+
+  module _ {t : Instruction} (l : n ≤ i) (e : t ≡ testAt P) where
+    ran : Running s name P (byte P 0) m
+    ran = let q : i ≡ byte P 0 = omega (arith, h .within, h .count) in rw (← q) (h .running)
+
+    ready : Testable m t
+    ready = rw e (test-ready s P (h .good) ran)
+
+    pub going-left : register m (t .left) < 384
+    going-left = omega (arith, left-below ready, ready .room)
+
+    pub going-right : register m (t .right) < 384
+    going-right = omega (arith, right-below ready, ready .room)
+
+    pub going-done : {r : ℕ} → r ≡ cond (related ρ (m .heads) (m .lefts) (m .rights) (register m (t .left)) (register m (t .right))) 1 0 →
+        done r ≡ answered (failsIf (isStaleName s name) 15 0) (done (signal s name P))
+    unfolding signal
+    going-done k =
+        let z : signals (registers s name P (byte P 0)) (testAt P) ≡ signals (values m) t = ap₂ signals (sym (ran .holds .is)) (sym e) in
+        rw (h .fresh, k, z, tested ready ρ (ap (λ t. relationOf (t .rule)) e ∙ h .asks))
 
 -- ---- the answer
 module _ (s P : List ℕ) (name : ℕ) {rd : Reading} (e : ReadingIs s (checks1to5 s) rd) where
@@ -142,7 +185,7 @@ module _ (s P : List ℕ) (name : ℕ) {rd : Reading} (e : ReadingIs s (checks1t
       unfolding runAnswer
       run-tried r t h = h ∙ rw (reading-passes, program-good s P g t)
 
--- ---- check 15, and the signal
+-- ---- check 15
 module _ (s P : List ℕ) (name : ℕ) {v : Node} (q : v ≡ guessNode s name) {b : Bool} (i : b ≡ isStaleName s (v .left)) where
   named : isStaleName s name ≡ b
   named = sym (i ∙ ap (λ z. isStaleName s (z .left)) q)
@@ -150,12 +193,9 @@ module _ (s P : List ℕ) (name : ℕ) {v : Node} (q : v ≡ guessNode s name) {
   pub tried-stale : b ≡ true → refused 15 0 ≡ answered (failsIf (isStaleName s name) 15 0) (done (signal s name P))
   tried-stale j = rw (named, j)
 
-  pub tried-fresh : {r : ℕ} → b ≡ false → r ≡ signal s name P → done r ≡ answered (failsIf (isStaleName s name) 15 0) (done (signal s name P))
-  tried-fresh j k = rw (named, j, k)
-
-pub signal-ran : (s P : List ℕ) (name : ℕ) {m : Machine} {r : ℕ} → Running s name P (byte P 0) m → r ≡ cond (signals (values m) (testAt P)) 1 0 → r ≡ signal s name P
-unfolding signal
-signal-ran s P name h k = rw (k, h .holds .is)
+  -- before the first instruction
+  pub going-none : {ρ : Relation} {n : ℕ} {m : Machine} → b ≡ false → SubmissionRead s → badProgram s P ≡ false → relationOf (testAt P .rule) ≡ some ρ → n ≡ byte P 0 → Started s name m → Going s name P ρ n 0 m
+  going-none j w g a c h = record { read = w; good = g; asks = a; fresh = named ∙ j; count = c; within = omega arith; running = running-none P h }
 
 -- ---- Demand 1, run
 pub says-stale-name : (s : List ℕ) (name : ℕ) → Says (isStaleName s name) (StaleName s name)

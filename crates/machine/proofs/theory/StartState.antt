@@ -1,17 +1,17 @@
 -- The start of a run: the submission's terms as nodes, the knowledge and the guess in the first registers.
-use mathlib.Core.Path.{_≡_, refl, sym, ap, ap₂, _∙_, subst}
+use mathlib.Core.Path.{_≡_, sym, ap, ap₂, _∙_, subst}
 use mathlib.Core.Bool.{Bool, true, false, cond, true≢false, false≢true}
 use mathlib.Core.List.{List, [], _∷_, _++_}
 use mathlib.Core.Option.{some}
 use Prim.Native.Nat.{ℕ, _+_, _*_, _≤_, _<_}
-use native.Mathlib.Numerals.{add-one}
 use native.Mathlib.Omega.{arith}
 use mir.Syntax.{w8}
 use mir.Val.{Fits}
-use lib.ListN.{length, getD, set, length-set, length-append}
+use lib.ListN.{length, getD, set, replicate, length-set, length-replicate}
+use lib.Seq.{getD-set-same, getD-set-other}
 use borrow.Author.Count.{below-more}
-use Rattle.base.specs.Words.{grow}
-use Rattle.base.proofs.Grow.{length-listed}
+use Rattle.base.specs.Words.{listed}
+use Rattle.base.proofs.Grow.{grow-alike}
 use Rattle.term.specs.Term.{Kind, plain, public, private, Shape, atomic, compound, atomKind, Term, atom, leaf, message, void, decoded}
 use Rattle.term.specs.{Number.shapeOf, Computed.kindOf}
 use Rattle.term.specs.Code.{isUnary, builderOf, Table}
@@ -21,12 +21,13 @@ use Rattle.submission.specs.Record.{terms, entries, entryAt, guess, kindAt, nam
 use Rattle.submission.specs.Code.{IsTerm, SubmissionRead}
 use Rattle.submission.proofs.theory.ListedTerms.{Claimed, claimed}
 use Rattle.machine.specs.declared.Node.{Node}
-use Rattle.machine.specs.declared.Machine.{Machine}
 use Rattle.machine.specs.declared.Found.{Found}
 use Rattle.machine.specs.Run.{initial}
-use Rattle.machine.specs.Code.{atoms, atomHead, recordFor, nodeFor, nodeIn, nodeAt, termAt, values, SoundState, withNode, Room, Placed, guessNode, numberIn, knowledge, Loaded, Started}
+use Rattle.machine.specs.declared.Machine.{Machine}
+use Rattle.machine.specs.Code.{atoms, atomHead, recordFor, nodeFor, stateOf, nodeOf, NodeArrays, Placed, TermNodes, EntryRegisters, guessNode, numberIn}
+use Rattle.machine.proofs.theory.StateMeaning.{nodeAt, termAt, register, values, SoundState, Started}
 use Rattle.machine.proofs.theory.NodeRecords.{atom-record, record-node}
-use Rattle.machine.proofs.theory.StateGrowth.{decoded-alike, node-old, node-new, Fit, register-stored}
+use Rattle.machine.proofs.theory.StateGrowth.{decoded-alike, put-other, put-same, Fit}
 use Rattle.machine.proofs.theory.NodeSearch.{Absent, placed-gives}
 use Rattle.term.specs.Computed.{isAtomic}
 
@@ -76,100 +77,55 @@ module _ {s : List ℕ} {t : ℕ} {z : TermRead} (w : SubmissionRead s) (l : t <
       go (compound c) p q = rw (q, k, i, g, p, f, e .x, e .y)
 
 -- ---- the terms
--- the state m holds the first t terms in its arrays
-pub record Filled (s : List ℕ) (m : Machine) (t : ℕ) : Type 0 where
-  pub heads : length (m .heads) ≡ 384
-  pub lefts : length (m .lefts) ≡ 384
-  pub rights : length (m .rights) ≡ 384
-  pub nodes : (k : ℕ) → k < t → nodeIn m k ≡ nodeFor (recordAt s k)
-  pub registers : length (m .registers) ≡ 256
-  pub used : m .used ≡ 0
+pub arrays-new : NodeArrays (replicate 384 0) (replicate 384 0) (replicate 384 0)
+arrays-new = record { heads = length-replicate {A = ℕ} 384 0; lefts = length-replicate {A = ℕ} 384 0; rights = length-replicate {A = ℕ} 384 0 }
 
-pub filled-none : (s : List ℕ) {m : Machine} → m .used ≡ 0 → length (m .heads) ≡ 384 → length (m .lefts) ≡ 384 → length (m .rights) ≡ 384 → length (m .registers) ≡ 256 → Filled s m 0
-filled-none s u h l r g = record { heads = h; lefts = l; rights = r; nodes = λ k b. absurd (omega arith); registers = g; used = u }
+pub registers-new : length {A = ℕ} (replicate 256 0) ≡ 256
+registers-new = length-replicate {A = ℕ} 256 0
 
--- the state m with t nodes
-abbrev at : Machine → ℕ → Machine
-at m t = record { heads = m .heads; lefts = m .lefts; rights = m .rights; nodes = t; registers = m .registers; used = m .used }
+-- the arrays hold the first t terms
+pub record Filled (s hs ls rs : List ℕ) (t : ℕ) : Type 0 where
+  pub arrays : NodeArrays hs ls rs
+  pub nodes : (k : ℕ) → k < t → nodeOf hs ls rs k ≡ nodeFor (recordAt s k)
 
-module _ {s : List ℕ} {m : Machine} {t : ℕ} (w : SubmissionRead s) (f : Filled s m t) where
-  pub filled-more : {k n : ℕ} {v : Node} → t < n → n ≡ terms s → k ≡ t → v ≡ nodeFor (recordAt s t) →
-      Filled s (record { heads = set (m .heads) k (v .head); lefts = set (m .lefts) k (v .left); rights = set (m .rights) k (v .right); nodes = m .nodes; registers = m .registers; used = m .used }) (t + 1)
-  filled-more {v = v} b c e g = rw e (record {
-    heads = simp length-set (f .heads);
-    lefts = simp length-set (f .lefts);
-    rights = simp length-set (f .rights);
-    nodes = below-more (λ k. nodeIn (withNode (at m t) v) k ≡ nodeFor (recordAt s k)) t (λ k l. node-old (at m t) v room k l ∙ f .nodes k l) (node-new (at m t) v room ∙ g);
-    registers = f .registers;
-    used = f .used;
-  })
-    where
-      room : Room (at m t)
-      room = record { heads = omega (arith, f .heads, facts w .read .terms-most); lefts = omega (arith, f .lefts, facts w .read .terms-most); rights = omega (arith, f .rights, facts w .read .terms-most) }
+pub filled-none : (s : List ℕ) {hs ls rs : List ℕ} → NodeArrays hs ls rs → Filled s hs ls rs 0
+filled-none s a = record { arrays = a; nodes = λ k b. absurd (omega arith) }
 
-  module _ (l : terms s ≤ t) where
-    record-at : (k : ℕ) → k < terms s → nodeAt m k ≡ recordAt s k
-    record-at k b = ap recordFor (f .nodes k (omega arith)) ∙ record-node (recordAt s k)
-
-    same-terms : decoded (nodeAt m) (terms s) ≡ decoded (recordAt s) (terms s)
-    same-terms = decoded-alike (nodeAt m) (recordAt s) (terms s) record-at
-
-    terms-sound : SoundState (at m (terms s))
-    unfolding termAt term
-    terms-sound = record {
-      table = subst (λ ts. Table (nodeAt m) (terms s) (λ k. getD ts k void)) (sym same-terms) (record {
-        reads = λ k b. facts w .read .table .reads k b ∙ ap (message (term s)) (sym (record-at k b));
-        earlier = λ k b. rw (record-at k b) (facts w .read .table .earlier k b);
-        distinct = λ j k b c e. facts w .read .table .distinct j k b c (sym (record-at j b) ∙ e ∙ record-at k c);
-      });
-      canonical = λ k b. ap nodeFor (record-at k b) ∙ sym (f .nodes k (omega arith));
-      written = λ r b. absurd (omega (arith, f .used));
-    }
-
-    none-written : values (at m (terms s)) ≡ []
-    unfolding values grow
-    none-written = rw (f .used)
-
-    terms-held : (k : ℕ) → termAt (at m (terms s)) k ≡ term s k
-    unfolding termAt term
-    terms-held k = ap (λ ts. getD ts k void) same-terms
-
-  pub terms-loaded : {n N : ℕ} → n ≤ t → n ≡ terms s → N ≡ n → Loaded s [] (record { heads = m .heads; lefts = m .lefts; rights = m .rights; nodes = N; registers = m .registers; used = m .used })
-  terms-loaded b c e =
-      let l : terms s ≤ t = omega arith in
-      rw (e, c) (record { holds = record { sound = terms-sound l; is = none-written l }; used = f .used; nodes = refl; is = terms-held l; records = record { is = λ k b. f .nodes k (omega arith) }; long = f .registers })
-
--- ---- the knowledge
-knowledge-length : (s : List ℕ) (n : ℕ) → length (knowledge s n) ≡ n
-knowledge-length s n = length-listed (λ i. term s (entryAt s i)) n
-
-pub knowledge-none : {s : List ℕ} {m : Machine} → Loaded s [] m → Loaded s (knowledge s 0) m
-unfolding grow
-knowledge-none w = w
-
-module _ {s : List ℕ} {m : Machine} {i n : ℕ} (w : SubmissionRead s) (h : Loaded s (knowledge s i) m) (l : i < n) (c : n ≡ entries s) where
-  entry-below : {a x : ℕ} → a ≡ entryAt s i → x ≡ a → x < m .nodes
-  entry-below e f = omega (arith, facts w .read .entry-below i (omega arith), h .nodes)
-
-  pub entry-space : {k : ℕ} → k ≡ m .used → k < 256
-  entry-space e = omega (arith, h .used, knowledge-length s i, facts w .read .entries-most)
-
-  pub knowledge-more : {a x k : ℕ} → a ≡ entryAt s i → x ≡ a → k ≡ m .used →
-      Loaded s (knowledge s (i + 1)) (record { heads = m .heads; lefts = m .lefts; rights = m .rights; nodes = m .nodes; registers = set (m .registers) k x; used = m .used + 1 })
-  unfolding grow
-  knowledge-more {a} {x} {k} e f q =
-      let z = register-stored (h .holds .sound) (entry-below e f) (rw (h .long) (entry-space refl)) q in
-      rw (add-one i) (record {
-        holds = record { sound = z .holds .sound; is = z .holds .is ∙ ap₂ (λ vs t. vs ++ t ∷ []) (h .holds .is) (h .is _ ∙ ap (term s) (f ∙ e)) };
-        used = simp length-append (omega (arith, z .used, h .used));
-        nodes = z .nodes ∙ h .nodes;
-        is = λ k. z .terms k ∙ h .is k;
-        records = record { is = h .records .is };
-        long = length-set (m .registers) k x ∙ h .long;
+module _ {s hs ls rs : List ℕ} {t n : ℕ} (f : Filled s hs ls rs t) (c : n ≡ terms s) where
+  pub filled-more : SubmissionRead s → {k : ℕ} {v : Node} → t < n → k ≡ t → v ≡ nodeFor (recordAt s t) →
+      Filled s (set hs k (v .head)) (set ls k (v .left)) (set rs k (v .right)) (t + 1)
+  filled-more w {v = v} b e g =
+      let most = facts w .read .terms-most in
+      let a = f .arrays in
+      rw e (record {
+        arrays = record { heads = simp length-set (a .heads); lefts = simp length-set (a .lefts); rights = simp length-set (a .rights) };
+        nodes = below-more (λ k. nodeOf (set hs t (v .head)) (set ls t (v .left)) (set rs t (v .right)) k ≡ nodeFor (recordAt s k)) t
+            (λ k l. put-other hs ls rs t v k (λ e. omega arith) ∙ f .nodes k l)
+            (put-same hs ls rs t v (omega (arith, a .heads, most)) (omega (arith, a .lefts, most)) (omega (arith, a .rights, most)) ∙ g);
       })
 
-pub knowledge-all : {s : List ℕ} {m : Machine} {i n : ℕ} → Loaded s (knowledge s i) m → i ≤ n → n ≤ i → n ≡ entries s → Loaded s (knowledge s (entries s)) m
-knowledge-all {s} {m} {i} {n} h a b c = let e : i ≡ entries s = omega arith in rw (← e) h
+  pub filled-all : n ≤ t → TermNodes s hs ls rs
+  filled-all b = record { is = λ k l. f .nodes k (omega arith) }
+
+-- ---- the knowledge
+-- the registers hold the first i entries
+pub record Entered (s regs : List ℕ) (i : ℕ) : Type 0 where
+  pub long : length regs ≡ 256
+  pub is : (k : ℕ) → k < i → getD regs k 0 ≡ entryAt s k
+
+pub entered-none : (s : List ℕ) {regs : List ℕ} → length regs ≡ 256 → Entered s regs 0
+entered-none s e = record { long = e; is = λ k b. absurd (omega arith) }
+
+module _ {s regs : List ℕ} {i n : ℕ} (f : Entered s regs i) (c : n ≡ entries s) where
+  pub entered-more : SubmissionRead s → {k a x : ℕ} → i < n → k ≡ i → a ≡ entryAt s i → x ≡ a → Entered s (set regs k x) (i + 1)
+  entered-more w {x = x} b e g h = rw e (record {
+    long = simp length-set (f .long);
+    is = below-more (λ k. getD (set regs i x) k 0 ≡ entryAt s k) i (λ k l. getD-set-other regs i k x 0 (λ e. omega arith) ∙ f .is k l)
+        (getD-set-same regs i x 0 (omega (arith, f .long, facts w .read .entries-most)) ∙ h ∙ g);
+  })
+
+  pub entered-all : n ≤ i → EntryRegisters s regs
+  entered-all b = record { long = f .long; is = λ k l. f .is k (omega arith) }
 
 -- ---- the guess
 module _ {s : List ℕ} {g : ℕ} {z : TermRead} (w : SubmissionRead s) (e : IsTerm s g z) (f : g ≡ guess s) where
@@ -189,44 +145,72 @@ atomNode κ name = record { head = atomHead κ; left = name; right = 0 }
 pub guess-atom : {s : List ℕ} (w : SubmissionRead s) (name : ℕ) → guessNode s name ≡ atomNode (facts w .guess-kind) name
 guess-atom {s} w name = ap (λ k. record { head = atoms + k; left = name; right = 0 }) (shape-kind (kindAt s (guess s)) _ (facts w .guess-shape))
 
--- the guess's node is put after the terms, and its number into the next register
-module _ {s : List ℕ} {m : Machine} {v : Node} (w : SubmissionRead s) (name : ℕ) (h : Loaded s (knowledge s (entries s)) m) (g : v ≡ guessNode s name) where
-  guess-record : recordFor v ≡ leaf (facts w .guess-kind) name
-  guess-record = rw (g, guess-atom w name) (atom-record (facts w .guess-kind) name 0)
+-- ---- the state that holds these
+module _ {s hs ls rs regs : List ℕ} (w : SubmissionRead s) (f : TermNodes s hs ls rs) (g : EntryRegisters s regs) where
+  abbrev loaded : Machine
+  loaded = stateOf hs ls rs (terms s) regs (entries s)
 
-  guess-fit : Fit m v
-  guess-fit = record { sound = h .holds .sound; canonical = rw guess-record (sym (g ∙ guess-atom w name)); low = rw guess-record tt }
+  record-at : (k : ℕ) → k < terms s → nodeAt loaded k ≡ recordAt s k
+  record-at k b = ap recordFor (f .is k b) ∙ record-node (recordAt s k)
 
-  guess-absent : Absent m v 0
-  guess-absent = record { none = λ k b. absurd (omega arith) }
+  same-terms : decoded (nodeAt loaded) (terms s) ≡ decoded (recordAt s) (terms s)
+  same-terms = decoded-alike (nodeAt loaded) (recordAt s) (terms s) record-at
 
-  pub guess-started : {o : Found} {r : Machine} → o ≡ numberIn (m .heads) (m .lefts) (m .rights) (m .nodes) v → Placed m v o r → Started s name r
-  unfolding initial guessed
-  guess-started e p =
-      let d = placed-gives 0 guess-fit guess-absent e p in
-      record {
-        holds = record {
-          sound = d .holds .sound;
-          is = d .holds .is ∙ ap₂ (λ vs t. vs ++ t ∷ []) (h .holds .is) (ap (message (termAt m)) guess-record ∙ ap (λ o. atom (atomKind o) name) (sym (facts w .guess-shape)));
-        };
-        used = omega (arith, d .used, h .used, knowledge-length s (entries s));
-        few = omega (arith, d .few, h .nodes, facts w .read .terms-most);
-      }
+  terms-held : (k : ℕ) → termAt loaded k ≡ term s k
+  unfolding termAt term
+  terms-held k = ap (λ ts. getD ts k void) same-terms
 
--- the state before the guess has room for it
-module _ {s : List ℕ} {m : Machine} (w : SubmissionRead s) (h : Loaded s (knowledge s (entries s)) m) where
-  pub guess-room : {n : ℕ} → n ≡ m .nodes → n < 384
-  guess-room e = omega (arith, h .nodes, facts w .read .terms-most)
+  loaded-sound : SoundState loaded
+  unfolding termAt term
+  loaded-sound = record {
+    table = subst (λ ts. Table (nodeAt loaded) (terms s) (λ k. getD ts k void)) (sym same-terms) (record {
+      reads = λ k b. facts w .read .table .reads k b ∙ ap (message (term s)) (sym (record-at k b));
+      earlier = λ k b. rw (record-at k b) (facts w .read .table .earlier k b);
+      distinct = λ j k b c e. facts w .read .table .distinct j k b c (sym (record-at j b) ∙ e ∙ record-at k c);
+    });
+    canonical = λ k b. ap nodeFor (record-at k b) ∙ sym (f .is k b);
+    written = λ r b. rw (g .is r b) (facts w .read .entry-below r b);
+  }
 
-  pub guess-within : {n : ℕ} → n ≡ m .nodes → n ≤ 384
-  guess-within e = let b = guess-room e in omega arith
+  loaded-values : values loaded ≡ listed (λ i. term s (entryAt s i)) (entries s)
+  unfolding values
+  loaded-values = grow-alike [] _ _ (entries s) (λ r l b. terms-held (register loaded r) ∙ ap (term s) (g .is r b))
 
-  pub guess-space : {i : ℕ} → i ≡ m .used → i < 256
-  guess-space e = omega (arith, h .used, knowledge-length s (entries s), facts w .read .entries-most)
+  -- the guess's node is put after the terms, and its number into the next register
+  module _ {v : Node} (name : ℕ) (q : v ≡ guessNode s name) where
+    guess-record : recordFor v ≡ leaf (facts w .guess-kind) name
+    guess-record = rw (q, guess-atom w name) (atom-record (facts w .guess-kind) name 0)
+
+    guess-fit : Fit loaded v
+    guess-fit = record { sound = loaded-sound; canonical = rw guess-record (sym (q ∙ guess-atom w name)); low = rw guess-record tt }
+
+    guess-absent : Absent loaded v 0
+    guess-absent = record { none = λ k b. absurd (omega arith) }
+
+    pub guess-started : {n u : ℕ} {o : Found} {r : Machine} → n ≡ terms s → u ≡ entries s → o ≡ numberIn hs ls rs n v → Placed (stateOf hs ls rs n regs u) v o r → Started s name r
+    unfolding initial guessed
+    guess-started a b e p =
+        let d = placed-gives 0 guess-fit guess-absent (rw a at e) (rw (a, b) at p) in
+        record {
+          holds = record {
+            sound = d .holds .sound;
+            is = d .holds .is ∙ ap₂ (λ vs t. vs ++ t ∷ []) loaded-values (ap (message (termAt loaded)) guess-record ∙ ap (λ o. atom (atomKind o) name) (sym (facts w .guess-shape)));
+          };
+          used = d .used;
+          few = omega (arith, d .few, facts w .read .terms-most);
+        }
+
+-- there is room for it
+module _ {s : List ℕ} {n k : ℕ} (w : SubmissionRead s) (e : n ≡ k) where
+  pub guess-room : k ≡ terms s → n < 384
+  guess-room f = omega (arith, facts w .read .terms-most)
+
+  pub guess-within : k ≡ terms s → n ≤ 384
+  guess-within f = omega (arith, facts w .read .terms-most)
+
+  pub guess-space : k ≡ entries s → n < 256
+  guess-space f = omega (arith, facts w .read .entries-most)
 
 -- the guess's node has the name
 pub guess-left : (s : List ℕ) {v : Node} (name : ℕ) → v ≡ guessNode s name → v ≡ guessNode s (v .left)
 guess-left s name e = rw e
-
-pub guess-terms : {s : List ℕ} {vs : List Term} {m : Machine} {n : ℕ} → Loaded s vs m → n ≡ m .nodes → n ≡ terms s
-guess-terms h e = e ∙ h .nodes

@@ -1,7 +1,7 @@
 -- A state with one node or one register more: what it holds.
 use mathlib.Core.Path.{_≡_, refl, sym, ap, ap₂, _∙_, subst}
 use mathlib.Core.Bool.{Bool, true, false, true≢false}
-use mathlib.Core.List.{[], _∷_, _++_}
+use mathlib.Core.List.{List, [], _∷_, _++_}
 use Prim.Native.Nat.{ℕ, _+_, _<_}
 use native.Mathlib.Nat.{zero-add}
 use native.Mathlib.Numerals.{add-one}
@@ -17,7 +17,8 @@ use Rattle.term.specs.Code.{Below, Table}
 use Rattle.term.proofs.Table.{extended}
 use Rattle.machine.specs.declared.Node.{Node}
 use Rattle.machine.specs.declared.Machine.{Machine}
-use Rattle.machine.specs.Code.{recordFor, nodeFor, nodeIn, nodeAt, termAt, register, values, SoundState, Holds, sameNode, withNode, withRegister, Room, Gives}
+use Rattle.machine.specs.Code.{recordFor, nodeFor, nodeOf, sameNode, Room}
+use Rattle.machine.proofs.theory.StateMeaning.{nodeIn, nodeAt, termAt, register, values, SoundState, Holds, withNode, withRegister, Gives}
 
 -- ---- tables that are alike
 pub decoded-alike : (r r′ : ℕ → Rec) (n : ℕ) → ((i : ℕ) → i < n → r i ≡ r′ i) → decoded r n ≡ decoded r′ n
@@ -34,7 +35,6 @@ pub record Stored (m : Machine) (n : ℕ) (r : Machine) : Type 0 where
   pub holds : Holds r (values m ++ termAt m n ∷ [])
   pub used : r .used ≡ m .used + 1
   pub nodes : r .nodes ≡ m .nodes
-  pub terms : (k : ℕ) → termAt r k ≡ termAt m k
 
 module _ {m : Machine} {n : ℕ} (w : SoundState m) (l : n < m .nodes) (space : m .used < length (m .registers)) where
   register-old : (r : ℕ) → r < m .used → register (withRegister m n) r ≡ register m r
@@ -61,12 +61,8 @@ module _ {m : Machine} {n : ℕ} (w : SoundState m) (l : n < m .nodes) (space : 
             (λ r v b. ap (termAt m) (register-old r b)),
       )
 
-  register-terms : (k : ℕ) → termAt (withRegister m n) k ≡ termAt m k
-  unfolding termAt
-  register-terms k = refl
-
-  pub register-stored : {i : ℕ} → i ≡ m .used → Stored m n (record { heads = m .heads; lefts = m .lefts; rights = m .rights; nodes = m .nodes; registers = set (m .registers) i n; used = m .used + 1 })
-  register-stored e = rw e (record { holds = record { sound = register-sound; is = register-values }; used = refl; nodes = refl; terms = register-terms })
+  pub register-stored : Stored m n (withRegister m n)
+  register-stored = record { holds = record { sound = register-sound; is = register-values }; used = refl; nodes = refl }
 
 -- ---- one node more
 -- a node that can be put into the state m
@@ -78,15 +74,20 @@ pub record Fit (m : Machine) (v : Node) : Type 0 where
 abbrev pub isNode : Machine → Node → ℕ → Bool
 isNode m v k = sameNode (nodeIn m k) v
 
-module _ (m : Machine) (v : Node) (room : Room m) where
-  pub node-old : (k : ℕ) → k < m .nodes → nodeIn (withNode m v) k ≡ nodeIn m k
-  node-old k b =
-      let d : k ≡ m .nodes → ⊥ = λ e. omega arith in
-      rw (getD-set-other (m .heads) (m .nodes) k (v .head) 0 d, getD-set-other (m .lefts) (m .nodes) k (v .left) 0 d, getD-set-other (m .rights) (m .nodes) k (v .right) 0 d)
+-- a node put into the arrays
+module _ (hs ls rs : List ℕ) (n : ℕ) (v : Node) where
+  pub put-other : (k : ℕ) → (k ≡ n → ⊥) → nodeOf (set hs n (v .head)) (set ls n (v .left)) (set rs n (v .right)) k ≡ nodeOf hs ls rs k
+  put-other k d = rw (getD-set-other hs n k (v .head) 0 d, getD-set-other ls n k (v .left) 0 d, getD-set-other rs n k (v .right) 0 d)
 
-  pub node-new : nodeIn (withNode m v) (m .nodes) ≡ v
-  node-new =
-      rw (getD-set-same (m .heads) (m .nodes) (v .head) 0 (room .heads), getD-set-same (m .lefts) (m .nodes) (v .left) 0 (room .lefts), getD-set-same (m .rights) (m .nodes) (v .right) 0 (room .rights))
+  pub put-same : n < length hs → n < length ls → n < length rs → nodeOf (set hs n (v .head)) (set ls n (v .left)) (set rs n (v .right)) n ≡ v
+  put-same a b c = rw (getD-set-same hs n (v .head) 0 a, getD-set-same ls n (v .left) 0 b, getD-set-same rs n (v .right) 0 c)
+
+module _ (m : Machine) (v : Node) (room : Room m) where
+  node-old : (k : ℕ) → k < m .nodes → nodeIn (withNode m v) k ≡ nodeIn m k
+  node-old k b = put-other (m .heads) (m .lefts) (m .rights) (m .nodes) v k (λ e. omega arith)
+
+  node-new : nodeIn (withNode m v) (m .nodes) ≡ v
+  node-new = put-same (m .heads) (m .lefts) (m .rights) (m .nodes) v (room .heads) (room .lefts) (room .rights)
 
   terms : decoded (nodeAt (withNode m v)) (m .nodes + 1) ≡ decoded (nodeAt m) (m .nodes) ++ message (termAt m) (recordFor v) ∷ []
   unfolding decoded grow termAt
@@ -156,7 +157,7 @@ module _ (m : Machine) (v : Node) (room : Room m) where
 
     pub node-added : Gives m (message (termAt m) (recordFor v)) (withRegister (withNode m v) (m .nodes))
     node-added =
-        let s = register-stored {m = withNode m v} {n = m .nodes} node-sound (omega arith) space refl in
+        let s = register-stored {m = withNode m v} {n = m .nodes} node-sound (omega arith) space in
         record {
           holds = record { sound = s .holds .sound; is = s .holds .is ∙ ap₂ (λ vs t. vs ++ t ∷ []) node-values term-new };
           used = s .used;

@@ -1,102 +1,132 @@
--- `tried` meets its contract: a stale name, or the guess is put after the terms and the program signals.
-use Prim.Native.Nat.{_<_}
-use mathlib.Core.Path.{_≡_, refl}
-use lib.ListN.{length}
-use Rattle.machine.proofs.theory.NodeSearch.{placed-so}
-use Rattle.machine.proofs.theory.StartState.{guess-room, guess-within, guess-space, guess-left, guess-terms, guess-started}
-use Rattle.machine.proofs.theory.RunAnswer.{tried-stale, tried-fresh}
+-- `tried` meets its contract: a stale name; or the guess is put after the terms, and the first i instructions are executed.
+use Prim.Native.Nat.{_-_}
+use mathlib.Core.Path.{_≡_, _∙_}
+use Rattle.term.specs.Code.{relationIs}
+use Rattle.machine.proofs.theory.StartState.{arrays-new, registers-new, guess-room, guess-within, guess-space, guess-left, guess-started}
+use Rattle.machine.proofs.theory.RunAnswer.{Going, tried-stale, going-none, going-executable, going-more, going-left, going-right, going-done}
 use borrow.Author.Needs.{needs}
 use Rattle.machine.proofs.tried.Statement.{statement}
 use Rattle.machine.proofs.tried.Tie as tie
 
-with-knowledge-requires : tie.Need-with-knowledge-requires
-with-knowledge-requires c κs = search needs
+abbrev Inv-loop : tie.InvT-loop
+Inv-loop s name program relation terms entries m₀ n i₀ m i = Going s name program (relationIs relation) n i m
 
-guess-node-requires : tie.Need-guess-node-requires
+abbrev μ-loop : tie.MeasureT-loop
+μ-loop s name program relation terms entries m₀ n i₀ m i = n - i
+
+put-terms-requires : tie.Need-put-terms-requires Inv-loop μ-loop
+put-terms-requires c κs = (search needs, arrays-new)
+
+put-knowledge-requires : tie.Need-put-knowledge-requires Inv-loop μ-loop
+put-knowledge-requires c κs = (search needs, registers-new)
+
+terms-requires : tie.Need-terms-requires Inv-loop μ-loop
+terms-requires c κs = search needs
+
+wide16-requires : tie.Need-wide16-requires Inv-loop μ-loop
+wide16-requires c κs = search needs
+
+guess-node-requires : tie.Need-guess-node-requires Inv-loop μ-loop
 guess-node-requires c κs = search needs
 
-find-requires : tie.Need-find-requires
+find-requires : tie.Need-find-requires Inv-loop μ-loop
 find-requires c κs = (search needs, search guess-within)
 
-is-stale-requires : tie.Need-is-stale-requires
-is-stale-requires c κs = (search needs, (search needs, (search guess-left, (search needs, search guess-terms))))
+is-stale-requires : tie.Need-is-stale-requires Inv-loop μ-loop
+is-stale-requires c κs = (search needs, (search needs, (search guess-left, (search needs, search needs))))
 
-returns : tie.Need-returns
+returns : tie.Need-returns Inv-loop μ-loop
 returns c = search (tried-stale, needs)
 
-index-requires : tie.Need-index-requires
-index-requires c κs = search needs
+entries-requires : tie.Need-entries-requires Inv-loop μ-loop
+entries-requires c κs = search needs
 
-element-write-m : tie.Need-element-write-m
-element-write-m c = search guess-room
+wide16-requires-2 : tie.Need-wide16-requires-2 Inv-loop μ-loop
+wide16-requires-2 c κs = search needs
 
-mul-m : tie.Need-mul-m
-mul-m c = let h : c .index .result < 384 = search guess-room in search needs
+put-guess-requires : tie.Need-put-guess-requires Inv-loop μ-loop
+put-guess-requires c κs =
+    let read = c .before .before .before .before .before .before .before .before .before .before .before .before .before .before .before .before .before .before .before .before .before .before .before .before .before .before .pre .0 in
+    let room = guess-room read (c .before .before .before .before .before .before .before .before .before .before .before .before .before .before .before .before .wide16 .ensures) (c .before .before .before .before .before .before .before .before .before .before .before .before .before .before .before .before .before .terms .ensures) in
+    let space = guess-space read (c .before .before .before .before .wide162 .ensures) (c .before .before .before .before .before .entries .ensures) in
+    (c .before .before .before .before .before .before .before .before .before .before .before .before .before .before .before .before .before .before .before .before .put-terms .ensures .0, (c .before .before .before .before .before .before .before .before .before .before .before .before .before .before .before .before .before .before .put-knowledge .ensures .long, (room, space)))
 
-element-write-m-2 : tie.Need-element-write-m-2
-element-write-m-2 c = search guess-room
+nodes-with-requires : tie.Need-nodes-with-requires Inv-loop μ-loop
+nodes-with-requires c κs = guess-room (c .before .before .before .before .before .before .before .before .before .before .before .before .before .before .before .before .before .before .before .before .before .before .before .before .before .before .before .pre .0) (c .before .before .before .before .before .before .before .before .before .before .before .before .before .before .before .before .before .wide16 .ensures) (c .before .before .before .before .before .before .before .before .before .before .before .before .before .before .before .before .before .before .terms .ensures)
 
-mul-m-2 : tie.Need-mul-m-2
-mul-m-2 c = let h : c .index .result < 384 = search guess-room in search needs
+add-t39 : tie.Need-add-t39 Inv-loop μ-loop
+add-t39 c = let h = guess-space (c .before .before .before .before .before .before .before .before .before .before .before .before .before .before .before .before .before .before .before .before .before .before .before .before .before .before .before .before .pre .0) (c .before .before .before .before .before .before .wide162 .ensures) (c .before .before .before .before .before .before .before .entries .ensures) in search needs
 
-element-write-m-3 : tie.Need-element-write-m-3
-element-write-m-3 c = search guess-room
+byte-requires : tie.Need-byte-requires Inv-loop μ-loop
+byte-requires c κs = search needs
 
-nodes-with-requires : tie.Need-nodes-with-requires
-nodes-with-requires c κs = search guess-room
+loop-holds : tie.Need-loop-holds Inv-loop μ-loop
+loop-holds c =
+    let pre = c .before .before .before .before .before .before .before .before .before .before .before .before .before .before .before .before .before .before .before .before .before .before .before .before .before .before .before .before .before .pre in
+    let terms = c .before .before .before .before .before .before .before .before .before .before .before .before .before .before .before .before .before .before .before .before .before .before .before .put-terms .ensures .1 in
+    let entries = c .before .before .before .before .before .before .before .before .before .before .before .before .before .before .before .before .before .before .before .before .before .put-knowledge .ensures in
+    let node = c .before .before .before .before .before .before .before .before .before .before .before .before .before .before .before .before .before .before .guess-node .ensures in
+    let found = c .before .before .before .before .before .before .before .before .before .before .before .before .before .before .find .ensures in
+    let stale = c .before .before .before .before .before .before .before .before .before .before .is-stale .ensures in
+    let many : c .before .before .before .before .before .before .before .before .before .before .before .before .before .before .before .before .before .before .before .wide16 .result ≡ c .before .before .before .before .before .before .before .before .before .before .before .before .before .before .before .before .before .before .before .before .terms .result = c .before .before .before .before .before .before .before .before .before .before .before .before .before .before .before .before .before .before .before .wide16 .ensures in
+    let few : c .before .before .before .before .before .before .before .wide162 .result ≡ c .before .before .before .before .before .before .before .before .entries .result = c .before .before .before .before .before .before .before .wide162 .ensures in
+    let started = guess-started (pre .0) terms entries _ node (many ∙ c .before .before .before .before .before .before .before .before .before .before .before .before .before .before .before .before .before .before .before .before .terms .ensures) (few ∙ c .before .before .before .before .before .before .before .before .entries .ensures) found (c .before .before .put-guess .ensures) in
+    rw (c .before .nodes-with .ensures) (going-none _ _ _ node stale (c .before .before .before .before .before .before .before .before .before .if1 .left) (pre .0) (pre .1 .0) (pre .1 .1) (c .byte .ensures) started)
 
-number-of-requires : tie.Need-number-of-requires
-number-of-requires c κs = search needs
+instruction-at-requires : tie.Need-instruction-at-requires Inv-loop μ-loop
+instruction-at-requires c κs = search needs
 
-index-requires-2 : tie.Need-index-requires-2
-index-requires-2 c κs = search needs
+step-requires : tie.Need-step-requires Inv-loop μ-loop
+step-requires c κs = search going-executable
 
-mul-m-3 : tie.Need-mul-m-3
-mul-m-3 c = let h : c .index2 .result < 256 = search guess-space in search needs
+add-i : tie.Need-add-i Inv-loop μ-loop
+add-i c = search needs
 
-element-write-m-4 : tie.Need-element-write-m-4
-element-write-m-4 c = search guess-space
+loop-less : tie.Need-loop-less Inv-loop μ-loop
+loop-less c = search needs
 
-add-m : tie.Need-add-m
-add-m c = let h : c .before .before .before .before .before .before .before .before .before .before .before .before .before .before .before .before .with-knowledge .result .used < 256 = search guess-space in search needs
+loop-again : tie.Need-loop-again Inv-loop μ-loop
+loop-again c = search going-more
 
-signalled-requires : tie.Need-signalled-requires
-signalled-requires c κs =
-    let entry = c .before .before .before .before .before .before .before .before .before .before .before .before .before .before .before .before .before .before .before in
-    let start = c .before .before .before .before .before .before .before .before .before .before .before .before .before .before .before .before in
-    let m = start .with-knowledge .result in
-    let x : length (m .heads) ≡ 384 = search needs in
-    let y : length (m .lefts) ≡ 384 = search needs in
-    let z : length (m .rights) ≡ 384 = search needs in
-    let loaded = start .with-knowledge .ensures in
-    let room = guess-room (entry .pre .0) loaded refl in
-    let space = guess-space (entry .pre .0) loaded refl in
-    let placed = placed-so {m = m} {v = c .before .before .before .before .before .before .before .before .before .before .before .before .before .before .before .guess-node .result} {o = c .before .before .before .before .before .before .before .before .before .before .find .result} (rw x room) (rw y room) (rw z room) (rw (loaded .long) space) refl refl (c .before .before .before .index .ensures) (c .index2 .ensures) (c .before .number-of .ensures) (c .before .before .nodes-with .ensures) in
-    (entry .pre .0, (guess-started (entry .pre .0) _ loaded (c .before .before .before .before .before .before .before .before .before .before .before .before .before .before .before .guess-node .ensures) (c .before .before .before .before .before .before .before .before .before .before .find .ensures) placed, (entry .pre .1 .0, entry .pre .1 .1)))
+test-at-requires : tie.Need-test-at-requires Inv-loop μ-loop
+test-at-requires c κs = search needs
 
-returns-2 : tie.Need-returns-2
-returns-2 c = search (tried-fresh, needs)
+signal-requires : tie.Need-signal-requires Inv-loop μ-loop
+signal-requires c κs =
+    let going = c .before .before .before .before .before .before .before .loop .inv in
+    let ended = c .before .before .before .before .before .before .loop-test .left in
+    let test = c .before .before .before .before .before .test-at .ensures in
+    (going-left going ended test, going-right going ended test)
+
+returns-2 : tie.Need-returns-2 Inv-loop μ-loop
+returns-2 c = search going-done
 
 pub tried-spec : {M : Type 1} → statement M
 tried-spec =
     tie.close
     (tie.spec
-    with-knowledge-requires
+    Inv-loop
+    μ-loop
+    put-terms-requires
+    put-knowledge-requires
+    terms-requires
+    wide16-requires
     guess-node-requires
     find-requires
     is-stale-requires
     returns
-    index-requires
-    element-write-m
-    mul-m
-    element-write-m-2
-    mul-m-2
-    element-write-m-3
+    entries-requires
+    wide16-requires-2
+    put-guess-requires
     nodes-with-requires
-    number-of-requires
-    index-requires-2
-    mul-m-3
-    element-write-m-4
-    add-m
-    signalled-requires
+    add-t39
+    byte-requires
+    loop-holds
+    instruction-at-requires
+    step-requires
+    add-i
+    loop-less
+    loop-again
+    test-at-requires
+    signal-requires
     returns-2)

@@ -1,8 +1,11 @@
 -- `step` executes one instruction: each rule's reduction, by case, and the result in the next register.
+use Prim.Native.Nat.{_<_}
+use lib.ListN.{length}
+use mathlib.Core.Path.{_≡_, refl}
 use mathlib.Core.Logic.{⊎-elim}
-use Rattle.term.specs.Term.{left, right}
-use Rattle.machine.specs.declared.Cipher.the-variants.{Symmetric, Asymmetric}
-use Rattle.machine.proofs.theory.InstructionResult.{left-in, right-in, key-in, left-behind, left-fits, operands-read, step-pair, step-part, step-encrypt, step-decrypt, step-form}
+use Rattle.term.proofs.Numbered.{arms}
+use Rattle.machine.proofs.theory.NodeReductions.{reduction}
+use Rattle.machine.proofs.theory.InstructionResult.{left-in, right-in, key-in, left-behind, left-fits, executed-so}
 use borrow.Author.Needs.{needs}
 use Rattle.machine.proofs.Machine.step.Statement.{statement}
 use Rattle.machine.proofs.Machine.step.Tie as tie
@@ -52,23 +55,71 @@ cancelled-requires-3 c κs = search needs
 cancelled-requires-4 : tie.Need-cancelled-requires-4
 cancelled-requires-4 c κs = search needs
 
-add-with-value : tie.Need-add-with-value
-add-with-value c = search left-fits
+add-value-of : tie.Need-add-value-of
+add-value-of c = search left-fits
 
-with-value-requires : tie.Need-with-value-requires
-with-value-requires c κs = (search left-behind, search needs)
+value-of-requires : tie.Need-value-of-requires
+value-of-requires c κs =
+    let start = c .before .before .before .before .before .before .before .before .before .before .before .before .before .before .before in
+    (left-behind (start .pre) (c .before .before .before .before .before .before .before .before .before .before .before .before .before .before .wide .ensures) (c .before .before .before .before .before .before .before .before .before .before .before .before .wide2 .ensures) (c .before .before .before .before .before .before .before .before .before .before .before .before .before .operand-of .ensures), search needs)
+
+index-requires : tie.Need-index-requires
+index-requires c κs = search needs
+
+element-write-self : tie.Need-element-write-self
+element-write-self c = search needs
+
+mul-self : tie.Need-mul-self
+mul-self c = search needs
+
+element-write-self-2 : tie.Need-element-write-self-2
+element-write-self-2 c = search needs
+
+mul-self-2 : tie.Need-mul-self-2
+mul-self-2 c = search needs
+
+element-write-self-3 : tie.Need-element-write-self-3
+element-write-self-3 c = search needs
+
+nodes-with-requires : tie.Need-nodes-with-requires
+nodes-with-requires c κs = search needs
+
+number-of-requires : tie.Need-number-of-requires
+number-of-requires c κs = search needs
+
+index-requires-2 : tie.Need-index-requires-2
+index-requires-2 c κs = search needs
+
+mul-self-3 : tie.Need-mul-self-3
+mul-self-3 c = let h : c .index2 .result < 256 = rw (c .index2 .ensures) (c .before .before .before .before .before .before .before .before .before .before .before .before .before .before .before .before .before .before .before .before .pre .space) in search needs
+
+element-write-self-4 : tie.Need-element-write-self-4
+element-write-self-4 c = let h : c .index2 .result < 256 = rw (c .index2 .ensures) (c .before .before .before .before .before .before .before .before .before .before .before .before .before .before .before .before .before .before .before .before .pre .space) in search needs
+
+add-self : tie.Need-add-self
+add-self c = let h = c .before .before .before .before .before .before .before .before .before .before .before .before .before .before .before .before .before .before .before .before .pre .space in search needs
 
 returns : tie.Need-returns
 returns c =
-    ⊎-elim (λ w. search (step-pair, operands-read))
-    (⊎-elim (λ w. search (step-part left, operands-read))
-    (⊎-elim (λ w. search (step-part right, operands-read))
-    (⊎-elim (λ w. search (step-encrypt Symmetric, operands-read))
-    (⊎-elim (λ w. search (step-decrypt Symmetric, operands-read))
-    (⊎-elim (λ w. search (step-encrypt Asymmetric, operands-read))
-    (⊎-elim (λ w. search (step-decrypt Asymmetric, operands-read))
-    (λ w. search (step-form (w .0 .rest), operands-read))))))))
-    (c .before .match .came)
+    let pre = c .before .before .before .before .before .before .before .before .before .before .before .before .before .before .before .before .before .before .before .before .pre in
+    let rule = pre .rule in
+    let m = c .before .before .before .before .before .before .before .before .before .before .before .before .before .before .before .before .before .before .before .before .args .t1 in
+    let heads : length (m .heads) ≡ 384 = search (needs, c .before .before .before .before .before .before .before .before .before .before .before .before .before .before .before .before .before .before .before .before .good) in
+    let lefts : length (m .lefts) ≡ 384 = search (needs, c .before .before .before .before .before .before .before .before .before .before .before .before .before .before .before .before .before .before .before .before .good) in
+    let rights : length (m .rights) ≡ 384 = search (needs, c .before .before .before .before .before .before .before .before .before .before .before .before .before .before .before .before .before .before .before .before .good) in
+    let registers : length (m .registers) ≡ 256 = search (needs, c .before .before .before .before .before .before .before .before .before .before .before .before .before .before .before .before .before .before .before .before .good) in
+    let value = c .before .before .before .before .value-of .ensures in
+    executed-so pre (c .before .before .before .before .before .before .before .before .before .before .before .before .before .before .before .before .before .before .before .wide .ensures) (c .before .before .before .before .before .before .before .before .before .before .before .before .before .before .before .before .before .wide2 .ensures) (c .before .before .before .before .before .before .before .before .before .before .before .before .before .before .before .before .before .before .operand-of .ensures) (rw heads (pre .room)) (rw lefts (pre .room)) (rw rights (pre .room)) (rw registers (pre .space)) (c .before .before .before .before .before .before .before .before .before .before .operands-at .ensures)
+    (⊎-elim (λ w. reduction _ _ rule (w .2) (search arms))
+    (⊎-elim (λ w. reduction _ _ rule (w .2) (search arms))
+    (⊎-elim (λ w. reduction _ _ rule (w .2) (search arms))
+    (⊎-elim (λ w. reduction _ _ rule (w .2) (search arms))
+    (⊎-elim (λ w. reduction _ _ rule (w .2) (search arms))
+    (⊎-elim (λ w. reduction _ _ rule (w .2) (search arms))
+    (⊎-elim (λ w. reduction _ _ rule (w .2) (search arms))
+    (λ w. reduction _ _ rule (w .1) (search (arms) depth 12))))))))
+    (c .before .before .before .before .before .before .before .before .before .match .came))
+    value refl (c .before .before .before .index .ensures) (c .index2 .ensures) (c .before .number-of .ensures) (c .before .before .nodes-with .ensures)
 
 pub step-spec : {M : Type 1} → statement M
 step-spec =
@@ -89,6 +140,18 @@ step-spec =
     cancelled-requires-2
     cancelled-requires-3
     cancelled-requires-4
-    add-with-value
-    with-value-requires
+    add-value-of
+    value-of-requires
+    index-requires
+    element-write-self
+    mul-self
+    element-write-self-2
+    mul-self-2
+    element-write-self-3
+    nodes-with-requires
+    number-of-requires
+    index-requires-2
+    mul-self-3
+    element-write-self-4
+    add-self
     returns)
