@@ -1,11 +1,11 @@
 -- What the functions of the code do, over nodes and registers. That these mean document 01's terms is proved.
 -- Values can be exponentially large as trees, so the machine holds them shared: a table of nodes, no two equal, and registers with their numbers.
 use Rattle.term.specs.Term as words
-use mathlib.Core.{Path._≡_, Bool.Bool, Bool.true, Bool.false, Bool._&&_, Bool._||_, Bool.cond, List.List, List.[], List._∷_, List._++_, Option.Option, Option.none, Option.some}
+use mathlib.Core.{Path._≡_, Bool.Bool, Bool.true, Bool.false, Bool._&&_, Bool._||_, Bool.cond, List.List, Option.Option, Option.none, Option.some}
 use Prim.Native.Nat.{ℕ, _+_, _-_, _≤_, _<_}
 use lib.{Dec.eqb, Dec.ltb, Dec.leb, ListN.length, ListN.getD, ListN.set}
-use Rattle.base.specs.Words.{first, listed}
-use Rattle.term.specs.{Term.Kind, Term.public, Term.private, Term.symmetric, Term.asymmetric, Term.left, Term.right, Term.pair, Term.hash, Term.encryption, Term.Head, Term.make, Term.part, Term.decrypt, Term.pick, Term.Relation, Term.equal, Term.inverses, Term.atomic, Term.Term, Term.atomKind, Number.shapeOf, Computed.kindOf, Term.Rec, Term.leaf, Term.branch, Term.decoded, Term.void, Code.Table, Code.ruleOf, Number.rules, Number.headOf}
+use Rattle.base.specs.Words.{first}
+use Rattle.term.specs.{Term.Kind, Term.public, Term.private, Term.symmetric, Term.asymmetric, Term.left, Term.right, Term.pair, Term.hash, Term.encryption, Term.Head, Term.make, Term.part, Term.decrypt, Term.pick, Term.Relation, Term.equal, Term.inverses, Term.atomic, Term.atomKind, Number.shapeOf, Computed.kindOf, Term.Rec, Term.leaf, Term.branch, Code.ruleOf, Number.rules, Number.headOf}
 use Rattle.submission.specs.{Record.terms, Record.entries, Record.entryAt, Record.guess, Record.kindAt, Record.recordAt, Record.term, Code.KnownPart}
 use Rattle.machine.specs.declared.Node.{Node}
 use Rattle.machine.specs.declared.Machine.{Machine}
@@ -17,7 +17,6 @@ use Rattle.machine.specs.declared.Cipher.the-variants.{Symmetric, Asymme
 use Rattle.machine.specs.declared.Side.{Side}
 use Rattle.machine.specs.declared.Side.the-variants.{Left, Right}
 use Rattle.program.specs.Program.{Instruction, operand}
-use Rattle.machine.specs.Run.{initial, registers}
 
 -- ---- small enums
 abbrev pub sideOf : Side → words.Side
@@ -46,9 +45,6 @@ nodeFor (leaf κ n) = record { head = atomHead κ; left = n; right = 0 }
 nodeFor (branch h x y) = record { head = ruleOf h; left = x; right = y }
 
 -- ---- the state
-abbrev pub stateOf : List ℕ → List ℕ → List ℕ → ℕ → List ℕ → ℕ → Machine
-stateOf heads lefts rights nodes registers used = record { heads = heads; lefts = lefts; rights = rights; nodes = nodes; registers = registers; used = used }
-
 -- the node of a number, in the state's arrays
 abbrev pub nodeOf : List ℕ → List ℕ → List ℕ → ℕ → Node
 nodeOf heads lefts rights k = record { head = getD heads k 0; left = getD lefts k 0; right = getD rights k 0 }

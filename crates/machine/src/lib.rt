@@ -29,7 +29,7 @@ ghost use Rattle.base.specs.Answer.{answerOf, done};
 ghost use Rattle.base.specs.Computed.{failsIf, answered};
 ghost use Rattle.program.specs.Computed.{badProgram};
 ghost use Rattle.machine.specs.Computed.{isStaleName, runAnswer};
-ghost use Rattle.machine.specs.Code.{sideOf, cipherOf, nodeFor, nodeOf, operandsOf, sameNode, partsOfOne, inverseNodes, matchNodes, isNodeFrom, foundOf, orFound, when, Executable, Executed, numberOf, nodesWith, stateOf, NodeArrays, Placed, TermNodes, EntryRegisters, guessNode, recordsIn, treated, PartMarks, isMarked, SomeMarked, inverseHead, inverseNode, numberIn, isAt, related};
+ghost use Rattle.machine.specs.Code.{sideOf, cipherOf, nodeFor, nodeOf, operandsOf, sameNode, partsOfOne, inverseNodes, matchNodes, isNodeFrom, foundOf, orFound, when, Executable, Executed, numberOf, nodesWith, NodeArrays, TermNodes, EntryRegisters, guessNode, recordsIn, treated, PartMarks, isMarked, SomeMarked, inverseHead, inverseNode, numberIn, isAt, related};
 
 // ---- Terms as nodes.
 
@@ -395,31 +395,6 @@ fn guess_node(s: &[u8], name: u16) -> Node
     }
 }
 
-// Puts the guess v after the n terms, and its number, or that of the term where it was found, into register `used`.
-fn put_guess(
-    heads: &mut [u8; 384],
-    lefts: &mut [u16; 384],
-    rights: &mut [u16; 384],
-    registers: &mut [u16; 256],
-    n: u16,
-    used: u16,
-    v: Node,
-    found: Found,
-)
-    requires { ⌜ NodeArrays (now heads) (now lefts) (now rights) ⌝ }
-    requires { ⌜ length (now registers) ≡ 256 ⌝ }
-    requires { ⌜ n < 384 ⌝ }
-    requires { ⌜ used < 256 ⌝ }
-    ensures { λ _. ⌜ Placed (stateOf (now (heads .entry)) (now (lefts .entry)) (now (rights .entry)) n (now (registers .entry)) used) v found (stateOf (now (heads .exit)) (now (lefts .exit)) (now (rights .exit)) (nodesWith found n) (now (registers .exit)) (used + 1)) ⌝ }
-{
-    let k = index(n);
-    heads[k] = v.head;
-    lefts[k] = v.left;
-    rights[k] = v.right;
-    let i = index(used);
-    registers[i] = number_of(found, n);
-}
-
 // ---- Stale names.
 
 // Marks the parts of node t, keys among them, where it is marked.
@@ -650,17 +625,13 @@ fn tried(s: &[u8], name: u16, program: &[u8], relation: Relation) -> Answer
             place: 0,
         };
     }
+    // The guess goes after the terms: where it is one of them, what is put there is no node.
+    let k = index(terms);
+    heads[k] = g.head;
+    lefts[k] = g.left;
+    rights[k] = g.right;
     let entries = base::wide16(submission::entries(s));
-    put_guess(
-        &mut heads,
-        &mut lefts,
-        &mut rights,
-        &mut registers,
-        terms,
-        entries,
-        g,
-        found,
-    );
+    registers[index(entries)] = number_of(found, terms);
     let mut m = Machine {
         heads,
         lefts,

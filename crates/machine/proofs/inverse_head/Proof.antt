@@ -1,6 +1,5 @@
 -- `inverse_head` meets its contract, a law for each return.
 use Rattle.machine.proofs.theory.StaleSearch.{public-head, private-head, other-head}
-use borrow.Author.Needs.{needs}
 use Rattle.machine.proofs.inverse_head.Statement.{statement}
 use Rattle.machine.proofs.inverse_head.Tie as tie
 

@@ -15,8 +15,8 @@ use Rattle.machine.specs.declared.Machine.{Machine}
 use Rattle.machine.specs.declared.Operands.{Operands}
 use Rattle.machine.specs.declared.Found.{Found}
 use Rattle.machine.specs.Run.{executed}
-use Rattle.machine.specs.Code.{stateOf, isNodeFrom, foundOf, orFound, reduced, valueOf, numberOf, nodesWith, Executable, Executed}
-use Rattle.machine.proofs.theory.StateMeaning.{operandsIn, nodeIn, termAt, register, values, Gives, Applies}
+use Rattle.machine.specs.Code.{isNodeFrom, foundOf, orFound, reduced, valueOf, numberOf, nodesWith, Executable, Executed}
+use Rattle.machine.proofs.theory.StateMeaning.{stateOf, operandsIn, nodeIn, termAt, register, values, Gives, Applies}
 use Rattle.machine.proofs.theory.NodeReductions.{Ready, form, right-part-in, result-gives, reduct}
 use Rattle.machine.proofs.theory.NodeSearch.{placed-so}
 

@@ -6,7 +6,7 @@ use mathlib.Core.Logic.{Dec·and, if-pos, if-neg}
 use Prim.Native.Nat.{ℕ, _+_, _<_}
 use native.Mathlib.Omega.{arith}
 use lib.Dec.{eqb}
-use borrow.Author.Tests.{lt-ltb, eq-eqb, ne-eqb}
+use borrow.Author.Tests.{lt-ltb, eq-eqb}
 use Rattle.base.proofs.Says.{Says, says-true, says-eqb, says-and, denies}
 use Rattle.term.specs.{Term.Cipher, Term.symmetric, Term.asymmetric, Term.Side, Term.left, Term.right, Term.pair, Term.hash, Term.encryption, Term.Head, Term.make, Term.part, Term.decrypt, Term.Term, Term.atom, Term.node, Computed.head?, Computed.term?, Term.Match}
 use Rattle.base.specs.Words.{ite, grow, first}

@@ -18,8 +18,8 @@ use Rattle.machine.specs.declared.Node.{Node}
 use Rattle.machine.specs.declared.Found.{Found}
 use Rattle.machine.specs.declared.Found.the-variants.{At, Nothing}
 use Rattle.machine.specs.declared.Machine.{Machine}
-use Rattle.machine.specs.Code.{atomHead, recordFor, stateOf, nodeOf, sameNode, isNodeFrom, foundOf, orFound, inverseNodes, placed, Placed, numberOf, nodesWith}
-use Rattle.machine.proofs.theory.StateMeaning.{termAt, SoundState, Gives}
+use Rattle.machine.specs.Code.{atomHead, recordFor, nodeOf, sameNode, isNodeFrom, foundOf, orFound, inverseNodes, placed, Placed, numberOf, nodesWith}
+use Rattle.machine.proofs.theory.StateMeaning.{stateOf, termAt, SoundState, Gives}
 use Rattle.machine.proofs.theory.StateGrowth.{isNode, Fit, register-stored, node-added, spare, spare-terms, spare-sound, spare-values}
 
 -- ---- looking for a node

@@ -6,11 +6,10 @@ use Prim.Native.Nat.{ℕ}
 use native.Mathlib.Omega.{arith}
 use Rattle.base.specs.Words.{Bytes}
 use Rattle.base.specs.Answer.{Answer, done, refused, numbered, Clear, Refuses, Answers}
-use Rattle.base.proofs.Says.{denies}
 use Rattle.base.proofs.RefusalLaws.{SomeHolds, refuses-some, first-of, before-refuses, after-refuses, refuses-split, both-clear, clear-split}
 use Rattle.term.specs.Term.{Fresh}
 use Rattle.submission.specs.Record.{guess, nameAt, InKnowledge, guessed}
-use Rattle.machine.specs.Run.{StaleName, signal, programRows, runRows}
+use Rattle.machine.specs.Run.{StaleName, signal, programRows}
 use Rattle.machine.specs.Computed.{runAnswer}
 use Rattle.machine.proofs.theory.RunAnswer.{run-exact}
 

@@ -1,7 +1,7 @@
 -- Whether the guess's atom, or its inverse, is part of the knowledge: the returns of `is_marked`, `is_known_part`, `find_inverse` and `is_stale`.
 use mathlib.Core.Path.{_≡_, refl, sym, ap, _∙_, subst}
 use mathlib.Core.Logic.{_↔_, _⊎_, inl, inr, ⊎-elim, Iff·trans}
-use mathlib.Core.Bool.{Bool, true, false, _||_, true≢false, false≢true}
+use mathlib.Core.Bool.{Bool, true, false, true≢false, false≢true}
 use mathlib.Core.List.{List}
 use Prim.Native.Nat.{ℕ, _+_, _*_, _≤_, _<_}
 use native.Mathlib.Omega.{arith}
@@ -11,11 +11,11 @@ use borrow.Author.Tests.{ne-eqb, le-leb}
 use Rattle.base.specs.Words.{first}
 use Rattle.base.proofs.First.{first-none, first-some}
 use Rattle.base.proofs.Says.{Says, says-eqb, says-and, says-or, says-true, denies, same-test}
-use Rattle.term.specs.Term.{Kind, plain, public, private, otherKind, Term, atom, inverse, Part, leaf, message}
+use Rattle.term.specs.Term.{Kind, plain, public, private, otherKind, atom, inverse, leaf, message}
 use Rattle.term.proofs.Table.{leaf-of}
 use Rattle.submission.specs.declared.Term.{Term as TermRead}
 use Rattle.submission.specs.declared.ClaimBytes.{ClaimBytes}
-use Rattle.submission.specs.Record.{terms, guess, kindAt, nameAt, recordAt, term, InKnowledge, guessed}
+use Rattle.submission.specs.Record.{terms, guess, nameAt, recordAt, term, guessed}
 use Rattle.submission.specs.Code.{IsTerm, IsClaimBytes, SubmissionRead, KnownPart}
 use Rattle.submission.proofs.{PassedChecks.body-passes, theory.StaleTests.listed-part}
 use Rattle.deduction.specs.Code.{TableRead}
@@ -26,7 +26,7 @@ use Rattle.machine.specs.Run.{StaleName}
 use Rattle.machine.specs.Computed.{isStaleName}
 use Rattle.machine.specs.Code.{atomHead, recordFor, nodeFor, nodeOf, isNodeFrom, foundOf, guessNode, inverseHead, inverseNode, numberIn, isAt, TermNodes, PartMarks, isMarked, numberOf, SomeMarked}
 use Rattle.machine.proofs.theory.NodeRecords.{atom-record, record-node}
-use Rattle.machine.proofs.theory.NodeSearch.{found-at, found-nothing, says-same, same-node}
+use Rattle.machine.proofs.theory.NodeSearch.{found-at, found-nothing, says-same}
 use Rattle.machine.proofs.theory.StartState.{facts, atomNode, guess-atom}
 use Rattle.machine.proofs.theory.RunAnswer.{says-stale-name}
 

@@ -1,5 +1,5 @@
 -- The start of a run: the submission's terms as nodes, the knowledge and the guess in the first registers.
-use mathlib.Core.Path.{_≡_, sym, ap, ap₂, _∙_, subst}
+use mathlib.Core.Path.{_≡_, refl, sym, ap, ap₂, _∙_, subst}
 use mathlib.Core.Bool.{Bool, true, false, cond, true≢false, false≢true}
 use mathlib.Core.List.{List, [], _∷_, _++_}
 use mathlib.Core.Option.{some}
@@ -12,7 +12,7 @@ use lib.Seq.{getD-set-same, getD-set-other}
 use borrow.Author.Count.{below-more}
 use Rattle.base.specs.Words.{listed}
 use Rattle.base.proofs.Grow.{grow-alike}
-use Rattle.term.specs.Term.{Kind, plain, public, private, Shape, atomic, compound, atomKind, Term, atom, leaf, message, void, decoded}
+use Rattle.term.specs.Term.{Kind, plain, public, private, Shape, atomic, compound, atomKind, atom, leaf, message, void, decoded}
 use Rattle.term.specs.{Number.shapeOf, Computed.kindOf}
 use Rattle.term.specs.Code.{isUnary, builderOf, Table}
 use Rattle.term.proofs.Kind.{shape-kind}
@@ -24,11 +24,11 @@ use Rattle.machine.specs.declared.Node.{Node}
 use Rattle.machine.specs.declared.Found.{Found}
 use Rattle.machine.specs.Run.{initial}
 use Rattle.machine.specs.declared.Machine.{Machine}
-use Rattle.machine.specs.Code.{atoms, atomHead, recordFor, nodeFor, stateOf, nodeOf, NodeArrays, Placed, TermNodes, EntryRegisters, guessNode, numberIn}
-use Rattle.machine.proofs.theory.StateMeaning.{nodeAt, termAt, register, values, SoundState, Started}
+use Rattle.machine.specs.Code.{atoms, atomHead, recordFor, nodeFor, nodeOf, NodeArrays, Placed, numberOf, nodesWith, TermNodes, EntryRegisters, guessNode, numberIn}
+use Rattle.machine.proofs.theory.StateMeaning.{stateOf, nodeAt, termAt, register, values, SoundState, Started}
 use Rattle.machine.proofs.theory.NodeRecords.{atom-record, record-node}
 use Rattle.machine.proofs.theory.StateGrowth.{decoded-alike, put-other, put-same, Fit}
-use Rattle.machine.proofs.theory.NodeSearch.{Absent, placed-gives}
+use Rattle.machine.proofs.theory.NodeSearch.{Absent, placed-so, placed-gives}
 use Rattle.term.specs.Computed.{isAtomic}
 
 -- what holds of the terms, and of the claim, after checks 1 to 5
@@ -187,7 +187,7 @@ module _ {s hs ls rs regs : List ℕ} (w : SubmissionRead s) (f : TermNodes s hs
     guess-absent : Absent loaded v 0
     guess-absent = record { none = λ k b. absurd (omega arith) }
 
-    pub guess-started : {n u : ℕ} {o : Found} {r : Machine} → n ≡ terms s → u ≡ entries s → o ≡ numberIn hs ls rs n v → Placed (stateOf hs ls rs n regs u) v o r → Started s name r
+    guess-started : {n u : ℕ} {o : Found} {r : Machine} → n ≡ terms s → u ≡ entries s → o ≡ numberIn hs ls rs n v → Placed (stateOf hs ls rs n regs u) v o r → Started s name r
     unfolding initial guessed
     guess-started a b e p =
         let d = placed-gives 0 guess-fit guess-absent (rw a at e) (rw (a, b) at p) in
@@ -199,6 +199,15 @@ module _ {s hs ls rs regs : List ℕ} (w : SubmissionRead s) (f : TermNodes s hs
           used = d .used;
           few = omega (arith, d .few, facts w .read .terms-most);
         }
+
+    -- as the code writes it
+    pub guess-put : NodeArrays hs ls rs → {n u k i a b : ℕ} {o : Found} → n ≡ terms s → u ≡ entries s → o ≡ numberIn hs ls rs n v → k ≡ n → i ≡ u → a ≡ numberOf o n → b ≡ nodesWith o n →
+        Started s name (stateOf (set hs k (v .head)) (set ls k (v .left)) (set rs k (v .right)) b (set regs i a) (u + 1))
+    guess-put arrays {n} {u} {o = o} c d e x y z t =
+        let room : n < 384 = omega (arith, facts w .read .terms-most) in
+        let space : u < 256 = omega (arith, facts w .read .entries-most) in
+        guess-started c d e
+        (placed-so {m = stateOf hs ls rs n regs u} {v = v} {o = o} (rw (arrays .heads) room) (rw (arrays .lefts) room) (rw (arrays .rights) room) (rw (g .long) space) refl x y z t)
 
 -- there is room for it
 module _ {s : List ℕ} {n k : ℕ} (w : SubmissionRead s) (e : n ≡ k) where

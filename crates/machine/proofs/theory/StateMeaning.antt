@@ -12,6 +12,9 @@ use Rattle.machine.specs.Run.{initial, registers}
 use Rattle.machine.specs.declared.Machine.{Machine}
 use Rattle.machine.specs.Code.{recordFor, nodeFor, nodeOf, operandsOf}
 
+abbrev pub stateOf : List ℕ → List ℕ → List ℕ → ℕ → List ℕ → ℕ → Machine
+stateOf heads lefts rights nodes registers used = record { heads = heads; lefts = lefts; rights = rights; nodes = nodes; registers = registers; used = used }
+
 abbrev pub operandsIn : Machine → ℕ → ℕ → Operands
 operandsIn m a b = operandsOf (m .heads) (m .lefts) (m .rights) a b
 
