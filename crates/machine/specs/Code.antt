@@ -1,7 +1,7 @@
 -- What the functions of the code do, over nodes and registers. That these mean document 01's terms is proved.
 -- Values can be exponentially large as trees, so the machine holds them shared: a table of nodes, no two equal, and registers with their numbers.
 use Rattle.term.specs.Term as words
-use mathlib.Core.{Path._≡_, Bool.Bool, Bool.true, Bool.false, Bool._&&_, Bool._||_, Bool.cond, List.List, Option.Option, Option.none, Option.some}
+use mathlib.Core.{Path._≡_, Bool.Bool, Bool.false, Bool._&&_, Bool._||_, Bool.cond, List.List, Option.Option, Option.none, Option.some}
 use Prim.Native.Nat.{ℕ, _+_, _-_, _≤_, _<_}
 use lib.{Dec.eqb, Dec.ltb, Dec.leb, ListN.length, ListN.getD, ListN.set}
 use Rattle.base.specs.Words.{first}
@@ -183,10 +183,6 @@ inverseNode v = record { head = inverseHead (v .head); left = v .left; right = v
 abbrev pub numberIn : List ℕ → List ℕ → List ℕ → ℕ → Node → Found
 numberIn heads lefts rights n v = foundOf (first (isNodeFrom heads lefts rights v 0) n)
 
-abbrev pub isAt : Found → Bool
-isAt (At k) = true
-isAt Nothing = false
-
 -- the records of the nodes in the state's arrays
 abbrev pub recordsIn : List ℕ → List ℕ → List ℕ → ℕ → Rec
 recordsIn heads lefts rights k = recordFor (nodeOf heads lefts rights k)
@@ -211,12 +207,9 @@ isMarked l (At k) = eqb (getD l k 0) 1
 isMarked l Nothing = false
 
 -- one of the two is marked, by marks of what is part of the knowledge
-pub record SomeMarked (s : List ℕ) (n : ℕ) (found other : Found) (r : Bool) : Type 0 where
+pub record SomeMarked (s : List ℕ) (lowest : ℕ) (found other : Found) (r : Bool) : Type 0 where
   pub marks : List ℕ
-  pub lowest : ℕ
   pub parts : PartMarks s lowest marks
-  pub first : lowest ≤ numberOf found n
-  pub second : lowest ≤ numberOf other n
   pub is : r ≡ (isMarked marks found || isMarked marks other)
 
 -- the relation of two nodes, by their numbers

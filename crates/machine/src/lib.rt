@@ -29,7 +29,7 @@ ghost use Rattle.base.specs.Answer.{answerOf, done};
 ghost use Rattle.base.specs.Computed.{failsIf, answered};
 ghost use Rattle.program.specs.Computed.{badProgram};
 ghost use Rattle.machine.specs.Computed.{isStaleName, runAnswer};
-ghost use Rattle.machine.specs.Code.{sideOf, cipherOf, nodeFor, nodeOf, operandsOf, sameNode, partsOfOne, inverseNodes, matchNodes, isNodeFrom, foundOf, orFound, when, Executable, Executed, numberOf, nodesWith, NodeArrays, TermNodes, EntryRegisters, guessNode, recordsIn, treated, PartMarks, isMarked, SomeMarked, inverseHead, inverseNode, numberIn, isAt, related};
+ghost use Rattle.machine.specs.Code.{sideOf, cipherOf, nodeFor, nodeOf, operandsOf, sameNode, partsOfOne, inverseNodes, matchNodes, isNodeFrom, foundOf, orFound, when, Executable, Executed, numberOf, nodesWith, NodeArrays, TermNodes, EntryRegisters, guessNode, recordsIn, treated, PartMarks, isMarked, SomeMarked, inverseHead, inverseNode, numberIn, related};
 
 // ---- Terms as nodes.
 
@@ -469,7 +469,7 @@ fn lower_of(a: u16, b: u16) -> u16
     b
 }
 
-// Whether one of these two of n terms is part of the knowledge.
+// Whether one of these two terms, neither before `lowest`, is part of the knowledge.
 fn is_known_part<'a>(
     s: &[u8],
     heads: &'a [u8; 384],
@@ -477,13 +477,12 @@ fn is_known_part<'a>(
     rights: &'a [u16; 384],
     found: Found,
     other: Found,
-    n: u16,
+    lowest: u16,
 ) -> bool
     requires { ⌜ TableRead (now s) ⌝ }
     requires { ⌜ TermNodes (now s) (now heads) (now lefts) (now rights) ⌝ }
-    ensures { λ r. ⌜ SomeMarked (now (s .entry)) n found other r ⌝ }
+    ensures { λ r. ⌜ SomeMarked (now (s .entry)) lowest found other r ⌝ }
 {
-    let lowest = lower_of(number_of(found, n), number_of(other, n));
     let marks = known_parts(s, heads, lefts, rights, lowest);
     if is_marked(&marks, found) {
         return true;
@@ -528,15 +527,6 @@ fn find_inverse<'a>(
     find(heads, lefts, rights, inverse, 0, n)
 }
 
-fn is_at(found: Found) -> bool
-    ensures { λ r. ⌜ r ≡ isAt found ⌝ }
-{
-    match found {
-        Found::At(_) => true,
-        Found::Nothing => false,
-    }
-}
-
 // Whether the guess's atom v, which is term `found` of n, or its inverse is part of the knowledge. The guess's own name is never stale. What is
 // not listed is part of nothing.
 fn is_stale<'a>(
@@ -561,13 +551,11 @@ fn is_stale<'a>(
         return false;
     }
     let other = find_inverse(heads, lefts, rights, v, found, n);
-    if is_at(found) {
-        return is_known_part(s, heads, lefts, rights, found, other, n);
+    let lowest = lower_of(number_of(found, n), number_of(other, n));
+    if n <= lowest {
+        return false;
     }
-    if is_at(other) {
-        return is_known_part(s, heads, lefts, rights, found, other, n);
-    }
-    false
+    is_known_part(s, heads, lefts, rights, found, other, lowest)
 }
 
 // ---- The signal.

@@ -4,15 +4,6 @@ use borrow.Author.Needs.{needs}
 use Rattle.machine.proofs.is_known_part.Statement.{statement}
 use Rattle.machine.proofs.is_known_part.Tie as tie
 
-number-of-requires : tie.Need-number-of-requires
-number-of-requires c κs = search needs
-
-number-of-requires-2 : tie.Need-number-of-requires-2
-number-of-requires-2 c κs = search needs
-
-lower-of-requires : tie.Need-lower-of-requires
-lower-of-requires c κs = search needs
-
 known-parts-requires : tie.Need-known-parts-requires
 known-parts-requires c κs = search needs
 
@@ -30,13 +21,4 @@ returns-2 c = search (second-marked, needs)
 
 pub is-known-part-spec : {M : Type 1} → statement M
 is-known-part-spec =
-    tie.close
-    (tie.spec
-    number-of-requires
-    number-of-requires-2
-    lower-of-requires
-    known-parts-requires
-    is-marked-requires
-    returns
-    is-marked-requires-2
-    returns-2)
+    tie.close (tie.spec known-parts-requires is-marked-requires returns is-marked-requires-2 returns-2)

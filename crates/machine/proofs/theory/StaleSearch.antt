@@ -24,7 +24,7 @@ use Rattle.machine.specs.declared.Found.{Found}
 use Rattle.machine.specs.declared.Found.the-variants.{At, Nothing}
 use Rattle.machine.specs.Run.{StaleName}
 use Rattle.machine.specs.Computed.{isStaleName}
-use Rattle.machine.specs.Code.{atomHead, recordFor, nodeFor, nodeOf, isNodeFrom, foundOf, guessNode, inverseHead, inverseNode, numberIn, isAt, TermNodes, PartMarks, isMarked, numberOf, SomeMarked}
+use Rattle.machine.specs.Code.{atomHead, recordFor, nodeFor, nodeOf, isNodeFrom, foundOf, guessNode, inverseHead, inverseNode, numberIn, TermNodes, PartMarks, isMarked, numberOf, SomeMarked}
 use Rattle.machine.proofs.theory.NodeRecords.{atom-record, record-node}
 use Rattle.machine.proofs.theory.NodeSearch.{found-at, found-nothing, says-same}
 use Rattle.machine.proofs.theory.StartState.{facts, atomNode, guess-atom}
@@ -41,12 +41,12 @@ module _ (l : List ℕ) {o : Found} where
   pub marked-beyond : {k i : ℕ} → length l ≡ 256 → o ≡ At k → i ≡ k → 256 ≤ i → false ≡ isMarked l o
   marked-beyond {k} {i} c e f b = let z : getD l k 0 ≡ 0 = List·getD-eq-default l 0 (omega arith) in rw (e, z)
 
-module _ {s l : List ℕ} {lowest : ℕ} (p : PartMarks s lowest l) {found other : Found} {b : Bool} (e : b ≡ isMarked l found) (n : ℕ) {i j : ℕ} (f : i ≡ numberOf found n) (g : j ≡ numberOf other n) (low : (lowest ≤ i) × (lowest ≤ j)) where
-  pub first-marked : b ≡ true → SomeMarked s n found other true
-  first-marked t = record { marks = l; lowest = lowest; parts = p; first = rw (← f) (low .0); second = rw (← g) (low .1); is = rw (← e, t) }
+module _ {s l : List ℕ} {lowest : ℕ} (p : PartMarks s lowest l) {found other : Found} {b : Bool} (e : b ≡ isMarked l found) where
+  pub first-marked : b ≡ true → SomeMarked s lowest found other true
+  first-marked t = record { marks = l; parts = p; is = rw (← e, t) }
 
-  pub second-marked : {r : Bool} → b ≡ false → r ≡ isMarked l other → SomeMarked s n found other r
-  second-marked t h = record { marks = l; lowest = lowest; parts = p; first = rw (← f) (low .0); second = rw (← g) (low .1); is = rw (← e, t, h) }
+  pub second-marked : {r : Bool} → b ≡ false → r ≡ isMarked l other → SomeMarked s lowest found other r
+  second-marked t h = record { marks = l; parts = p; is = rw (← e, t, h) }
 
 -- ---- the returns of `inverse_head` and `find_inverse`
 module _ (h : ℕ) where
@@ -104,11 +104,11 @@ module _ {s hs ls rs : List ℕ} (w : SubmissionRead s) (z : TermNodes s hs ls r
         go Nothing h low = (λ t. absurd (false≢true t), λ q. let (j, a, g) = listed-part (facts w .read) q in absurd (at-none h j a (sym g)))
 
     -- an atom that is not listed is part of nothing
-    unlisted : isAt o ≡ false → KnownPart s (atom κ name) → ⊥
+    unlisted : n ≤ numberOf o n → KnownPart s (atom κ name) → ⊥
     unlisted t q = go o refl t
       where
-        go : (x : Found) → o ≡ x → isAt x ≡ false → ⊥
-        go (At k) h u = true≢false u
+        go : (x : Found) → o ≡ x → n ≤ numberOf x n → ⊥
+        go (At k) h u = let (b, f) = at-term k h in omega arith
         go Nothing h u = let (j, a, g) = listed-part (facts w .read) q in at-none h j a (sym g)
 
 inverse-atom : (κ : Kind) (name : ℕ) → inverseNode (atomNode κ name) ≡ atomNode (otherKind κ) name
@@ -158,10 +158,11 @@ module _ {s : List ℕ} (v : Node) (w : SubmissionRead s) {b : ClaimBytes} {g : 
         other-name : v .left ≡ nameAt s (guess s) → ⊥
         other-name h = d (own-is ∙ sym h)
 
-    pub stale-marked : {r : Bool} → SomeMarked s n found other r → r ≡ isStaleName s (v .left)
-    stale-marked p =
-        p .is ∙ same-test _ _ (Iff·trans (says-or _ _ (says-found w z κ (v .left) c found-is (p .parts) (p .first)) (says-found w z (otherKind κ) (v .left) c other-is (p .parts) (p .second))) stale-iff) (says-stale-name s (v .left))
+    module _ {i j lowest : ℕ} (h : i ≡ numberOf found n) (k : j ≡ numberOf other n) (low : (lowest ≤ i) × (lowest ≤ j)) where
+      pub stale-marked : {r : Bool} → SomeMarked s lowest found other r → r ≡ isStaleName s (v .left)
+      stale-marked p =
+          p .is ∙ same-test _ _ (Iff·trans (says-or _ _ (says-found w z κ (v .left) c found-is (p .parts) (rw (← h) (low .0))) (says-found w z (otherKind κ) (v .left) c other-is (p .parts) (rw (← k) (low .1)))) stale-iff) (says-stale-name s (v .left))
 
-    pub stale-unlisted : {i j : Bool} → i ≡ isAt found → j ≡ isAt other → i ≡ false → j ≡ false → false ≡ isStaleName s (v .left)
-    stale-unlisted h k t u = sym (denies _ (says-stale-name s (v .left)) .1 (λ a.
-        ⊎-elim (unlisted w z κ (v .left) c found-is (sym h ∙ t)) (unlisted w z (otherKind κ) (v .left) c other-is (sym k ∙ u)) (stale-iff .1 a)))
+      pub stale-unlisted : n ≤ lowest → false ≡ isStaleName s (v .left)
+      stale-unlisted t = sym (denies _ (says-stale-name s (v .left)) .1 (λ a.
+          ⊎-elim (unlisted w z κ (v .left) c found-is (rw (← h) (omega (arith, low .0)))) (unlisted w z (otherKind κ) (v .left) c other-is (rw (← k) (omega (arith, low .1)))) (stale-iff .1 a)))
