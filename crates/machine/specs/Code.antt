@@ -97,17 +97,25 @@ matchNodes asymmetric k j v w = inverseNodes v w
 abbrev pub when : Bool → ℕ → Found
 when b n = cond b (At n) Nothing
 
--- what a head that cancels the head g gives over the operands o, the right one the node j
-abbrev pub opened : words.Cipher → Head → Operands → ℕ → Found
-opened c g o j = when (eqb (o .left .head) (ruleOf g) && matchNodes c (o .left .right) j (o .key) (o .right)) (o .left .left)
+-- pair, over the first and the second part of one node
+abbrev pub joinedNode : Operands → Found
+joinedNode o = when (partsOfOne (o .left) (o .right)) (o .left .left)
+
+-- fst or snd, over a pair
+abbrev pub partedNode : words.Side → Operands → Found
+partedNode s o = when (eqb (o .left .head) (ruleOf (make pair))) (pick s (o .left .left) (o .left .right))
+
+-- a rule that cancels the rule `inner`, over a node of that rule, under the key j that goes with its key
+abbrev pub cancelledNode : words.Cipher → ℕ → Operands → ℕ → Found
+cancelledNode c inner o j = when (eqb (o .left .head) inner && matchNodes c (o .left .right) j (o .key) (o .right)) (o .left .left)
 
 -- the reductions, over nodes: what a head gives over the operands o, the right one the node j
 abbrev pub reduced : Head → Operands → ℕ → Found
-reduced (make pair) o j = when (partsOfOne (o .left) (o .right)) (o .left .left)
+reduced (make pair) o j = joinedNode o
 reduced (make hash) o j = Nothing
-reduced (make (encryption c)) o j = opened c (decrypt c) o j
-reduced (part s) o j = when (eqb (o .left .head) (ruleOf (make pair))) (pick s (o .left .left) (o .left .right))
-reduced (decrypt c) o j = opened c (make (encryption c)) o j
+reduced (make (encryption c)) o j = cancelledNode c (ruleOf (decrypt c)) o j
+reduced (part s) o j = partedNode s o
+reduced (decrypt c) o j = cancelledNode c (ruleOf (make (encryption c))) o j
 
 -- the node that v reduces to, or that is v, of the first n; a node comes after its left operand
 abbrev pub valueOf : List ℕ → List ℕ → List ℕ → Node → ℕ → Found
@@ -186,6 +194,9 @@ numberIn heads lefts rights n v = foundOf (first (isNodeFrom heads lefts rights 
 -- the records of the nodes in the state's arrays
 abbrev pub recordsIn : List ℕ → List ℕ → List ℕ → ℕ → Rec
 recordsIn heads lefts rights k = recordFor (nodeOf heads lefts rights k)
+
+abbrev pub lowerOf : ℕ → ℕ → ℕ
+lowerOf a b = cond (ltb a b) a b
 
 -- the marks l, with the parts of a record marked too
 abbrev pub withParts : Rec → List ℕ → List ℕ

@@ -11,13 +11,12 @@ use term::Relation;
 use term::kinds;
 use term::rules;
 ghost use mathlib.Core.Path.{_≡_};
-ghost use mathlib.Core.Bool.{false, cond, _&&_};
+ghost use mathlib.Core.Bool.{false, cond};
 ghost use Prim.Native.Nat.{_+_, _≤_, _<_};
-ghost use lib.Dec.{eqb};
 ghost use lib.ListN.{length, getD};
 ghost use Rattle.base.specs.Words.{first};
-ghost use Rattle.term.specs.Term.{pair, make, pick};
-ghost use Rattle.term.specs.Code.{ruleOf, relationIs, Below};
+ghost use Rattle.term.specs.Term.{pick};
+ghost use Rattle.term.specs.Code.{relationIs, Below};
 ghost use Rattle.submission.specs.Record.{terms as termCount, recordAt};
 ghost use Rattle.submission.specs.Code.{SubmissionRead};
 ghost use Rattle.deduction.specs.Code.{TableRead};
@@ -29,7 +28,7 @@ ghost use Rattle.base.specs.Answer.{answerOf, done};
 ghost use Rattle.base.specs.Computed.{failsIf, answered};
 ghost use Rattle.program.specs.Computed.{badProgram};
 ghost use Rattle.machine.specs.Computed.{isStaleName, runAnswer};
-ghost use Rattle.machine.specs.Code.{sideOf, cipherOf, nodeFor, nodeOf, operandsOf, sameNode, partsOfOne, inverseNodes, matchNodes, isNodeFrom, foundOf, orFound, when, Executable, Executed, numberOf, nodesWith, NodeArrays, TermNodes, EntryRegisters, guessNode, recordsIn, treated, PartMarks, isMarked, SomeMarked, inverseHead, inverseNode, numberIn, related};
+ghost use Rattle.machine.specs.Code.{sideOf, cipherOf, nodeFor, nodeOf, operandsOf, sameNode, partsOfOne, inverseNodes, matchNodes, isNodeFrom, foundOf, orFound, joinedNode, partedNode, cancelledNode, Executable, Executed, numberOf, nodesWith, NodeArrays, TermNodes, EntryRegisters, guessNode, recordsIn, treated, PartMarks, isMarked, SomeMarked, inverseHead, inverseNode, numberIn, lowerOf, related};
 
 // ---- Terms as nodes.
 
@@ -144,7 +143,7 @@ pub struct Operands {
 
 // pair: the first and the second part of one term give that term.
 fn joined(o: Operands) -> Found
-    ensures { λ r. ⌜ r ≡ when (partsOfOne (o .left) (o .right)) (o .left .left) ⌝ }
+    ensures { λ r. ⌜ r ≡ joinedNode o ⌝ }
 {
     let x = o.left;
     if are_parts_of_one(x, o.right) {
@@ -164,7 +163,7 @@ fn chosen(side: Side, left: u16, right: u16) -> u16
 
 // fst or snd: a pair gives its part.
 fn parted(side: Side, o: Operands) -> Found
-    ensures { λ r. ⌜ r ≡ when (eqb (o .left .head) (ruleOf (make pair))) (pick (sideOf side) (o .left .left) (o .left .right)) ⌝ }
+    ensures { λ r. ⌜ r ≡ partedNode (sideOf side) o ⌝ }
 {
     let x = o.left;
     if x.head == rules::PAIR {
@@ -175,7 +174,7 @@ fn parted(side: Side, o: Operands) -> Found
 
 // A rule that cancels the rule `inner`: over a node of that rule, under a key that goes with the key j, it gives the node's operand.
 fn cancelled(cipher: Cipher, inner: u8, o: Operands, j: u16) -> Found
-    ensures { λ r. ⌜ r ≡ when (eqb (o .left .head) inner && matchNodes (cipherOf cipher) (o .left .right) j (o .key) (o .right)) (o .left .left) ⌝ }
+    ensures { λ r. ⌜ r ≡ cancelledNode (cipherOf cipher) inner o j ⌝ }
 {
     let x = o.left;
     if x.head != inner {
@@ -461,7 +460,7 @@ fn is_marked(marks: &[u8; 256], found: Found) -> bool
 
 // The lower of two numbers.
 fn lower_of(a: u16, b: u16) -> u16
-    ensures { λ r. ⌜ (r ≤ a) × (r ≤ b) ⌝ }
+    ensures { λ r. ⌜ r ≡ lowerOf a b ⌝ }
 {
     if a < b {
         return a;

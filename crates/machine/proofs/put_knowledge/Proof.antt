@@ -1,12 +1,12 @@
 -- `put_knowledge` meets its contract: the first i entries are in the registers.
 use Prim.Native.Nat.{_-_, _≤_}
-use Rattle.machine.proofs.theory.StartState.{Entered, entered-none, entered-more, entered-all}
+use Rattle.machine.proofs.theory.StartState.{EntriesPut, entries-none, entries-more, entries-all}
 use borrow.Author.Needs.{needs}
 use Rattle.machine.proofs.put_knowledge.Statement.{statement}
 use Rattle.machine.proofs.put_knowledge.Tie as tie
 
 abbrev Inv-loop : tie.InvT-loop
-Inv-loop s registers₀ n i₀ registers i = (i ≤ n) × Entered s registers i
+Inv-loop s registers₀ n i₀ registers i = (i ≤ n) × EntriesPut s registers i
 
 abbrev μ-loop : tie.MeasureT-loop
 μ-loop s registers₀ n i₀ registers i = n - i
@@ -15,7 +15,7 @@ entries-requires : tie.Need-entries-requires Inv-loop μ-loop
 entries-requires c κs = search needs
 
 loop-holds : tie.Need-loop-holds Inv-loop μ-loop
-loop-holds c = (search needs, search (entered-none, needs))
+loop-holds c = (search needs, search (entries-none, needs))
 
 wide-requires : tie.Need-wide-requires Inv-loop μ-loop
 wide-requires c κs = search needs
@@ -39,10 +39,10 @@ loop-less : tie.Need-loop-less Inv-loop μ-loop
 loop-less c = search needs
 
 loop-again : tie.Need-loop-again Inv-loop μ-loop
-loop-again c = (search needs, search entered-more)
+loop-again c = (search needs, search entries-more)
 
 returns : tie.Need-returns Inv-loop μ-loop
-returns c = search entered-all
+returns c = search entries-all
 
 pub put-knowledge-spec : {M : Type 1} → statement M
 put-knowledge-spec =

@@ -37,7 +37,7 @@ use Rattle.program.proofs.theory.Check13.{right-fits, operand-fits, program-iff
 use Rattle.machine.specs.Run.{executed, registers, holds, signals, signal, StaleName, programRows, runRows}
 use Rattle.machine.specs.declared.Machine.{Machine}
 use Rattle.machine.specs.Code.{nodeOf, inverseNodes, Executable, Executed, guessNode, related}
-use Rattle.machine.proofs.theory.StateMeaning.{termAt, register, values, Gives, Applies, Started, Running, Testable}
+use Rattle.machine.proofs.theory.StateMeaning.{termAt, register, values, Gives, Applies, Running, Testable}
 use Rattle.machine.proofs.theory.InstructionResult.{value-at, applies-executable, executed-gives}
 use Rattle.machine.proofs.theory.KeyNodes.{one-term, inverse-keys}
 use Rattle.machine.proofs.theory.StartState.{facts}
@@ -46,10 +46,6 @@ use Rattle.program.specs.Computed.{badProgram}
 use Rattle.machine.specs.Computed.{isStaleName, runAnswer}
 
 -- ---- the instructions
-running-none : (P : List ℕ) {s : List ℕ} {name : ℕ} {m : Machine} → Started s name m → Running s name P 0 m
-unfolding registers grow
-running-none P w = record { holds = w .holds; used = omega (arith, w .used); few = omega (arith, w .few) }
-
 module _ {s P : List ℕ} {name i n : ℕ} {m : Machine} {x : Instruction} (w : SubmissionRead s) (g : badProgram s P ≡ false) (h : Running s name P i m) (l : i < n) (c : n ≡ byte P 0) (e : x ≡ instructionAt P i) where
   instruction-applies : Applies m x
   instruction-applies =
@@ -97,14 +93,14 @@ module _ {m : Machine} {t : Instruction} (w : Testable m t) where
   right-below : register m (t .right) < m .nodes
   right-below = w .sound .written _ (w .right)
 
-  said : (ρ : Relation) → related ρ (m .heads) (m .lefts) (m .rights) (register m (t .left)) (register m (t .right)) ≡ holds (some ρ) (termAt m (register m (t .left))) (termAt m (register m (t .right)))
-  said equal = one-term (w .sound) left-below right-below
-  said inverses = inverse-keys (w .sound) left-below right-below refl refl
+  relation-said : (ρ : Relation) → related ρ (m .heads) (m .lefts) (m .rights) (register m (t .left)) (register m (t .right)) ≡ holds (some ρ) (termAt m (register m (t .left))) (termAt m (register m (t .right)))
+  relation-said equal = one-term (w .sound) left-below right-below
+  relation-said inverses = inverse-keys (w .sound) left-below right-below refl refl
 
   -- what the test's relation says of the two nodes is what it says of the two values
   tested : (ρ : Relation) → relationOf (t .rule) ≡ some ρ → signals (values m) t ≡ related ρ (m .heads) (m .lefts) (m .rights) (register m (t .left)) (register m (t .right))
   unfolding signals
-  tested ρ j = rw (j, value-at m _ (w .left), value-at m _ (w .right)) (sym (said ρ))
+  tested ρ j = rw (j, value-at m _ (w .left), value-at m _ (w .right)) (sym (relation-said ρ))
 
 -- after the last instruction it can be made
 test-ready : (s P : List ℕ) {name : ℕ} {m : Machine} → badProgram s P ≡ false → Running s name P (byte P 0) m → Testable m (testAt P)
@@ -114,7 +110,7 @@ test-ready s P g h =
 
 -- ---- the loop of `tried`
 -- the state m after i of the n instructions, of a name that is not stale
-pub record Going (s : List ℕ) (name : ℕ) (P : List ℕ) (ρ : Relation) (n i : ℕ) (m : Machine) : Type 0 where
+pub record TriedSoFar (s : List ℕ) (name : ℕ) (P : List ℕ) (ρ : Relation) (n i : ℕ) (m : Machine) : Type 0 where
   pub read : SubmissionRead s
   pub good : badProgram s P ≡ false
   pub asks : relationOf (testAt P .rule) ≡ some ρ
@@ -123,16 +119,16 @@ pub record Going (s : List ℕ) (name : ℕ) (P : List ℕ) (ρ : Relation) (n i
   pub within : i ≤ n
   pub running : Running s name P i m
 
-module _ {s P : List ℕ} {name n i : ℕ} {ρ : Relation} {m : Machine} (h : Going s name P ρ n i m) where
+module _ {s P : List ℕ} {name n i : ℕ} {ρ : Relation} {m : Machine} (h : TriedSoFar s name P ρ n i m) where
   module _ {x : Instruction} (l : i < n) (e : x ≡ instructionAt P i) where
     applies : Applies m x
     applies = instruction-applies (h .read) (h .good) (h .running) l (h .count) e
 
-    pub going-executable : Executable m x
-    going-executable = applies-executable applies
+    pub tried-executable : Executable m x
+    tried-executable = applies-executable applies
 
-    pub going-more : {r : Machine} → Executed m x r → Going s name P ρ n (i + 1) r
-    going-more d = record {
+    pub tried-more : {r : Machine} → Executed m x r → TriedSoFar s name P ρ n (i + 1) r
+    tried-more d = record {
       read = h .read;
       good = h .good;
       asks = h .asks;
@@ -149,16 +145,16 @@ module _ {s P : List ℕ} {name n i : ℕ} {ρ : Relation} {m : Machine} (h : Go
     ready : Testable m t
     ready = rw e (test-ready s P (h .good) ran)
 
-    pub going-left : register m (t .left) < 384
-    going-left = omega (arith, left-below ready, ready .room)
+    pub tried-left : register m (t .left) < 384
+    tried-left = omega (arith, left-below ready, ready .room)
 
-    pub going-right : register m (t .right) < 384
-    going-right = omega (arith, right-below ready, ready .room)
+    pub tried-right : register m (t .right) < 384
+    tried-right = omega (arith, right-below ready, ready .room)
 
-    pub going-done : {r : ℕ} → r ≡ cond (related ρ (m .heads) (m .lefts) (m .rights) (register m (t .left)) (register m (t .right))) 1 0 →
+    pub tried-done : {r : ℕ} → r ≡ cond (related ρ (m .heads) (m .lefts) (m .rights) (register m (t .left)) (register m (t .right))) 1 0 →
         done r ≡ answered (failsIf (isStaleName s name) 15 0) (done (signal s name P))
     unfolding signal
-    going-done k =
+    tried-done k =
         let z : signals (registers s name P (byte P 0)) (testAt P) ≡ signals (values m) t = ap₂ signals (sym (ran .holds .is)) (sym e) in
         rw (h .fresh, k, z, tested ready ρ (ap (λ t. relationOf (t .rule)) e ∙ h .asks))
 
@@ -194,8 +190,8 @@ module _ (s P : List ℕ) (name : ℕ) {v : Node} (q : v ≡ guessNode s name) {
   tried-stale j = rw (named, j)
 
   -- before the first instruction
-  pub going-none : {ρ : Relation} {n : ℕ} {m : Machine} → b ≡ false → SubmissionRead s → badProgram s P ≡ false → relationOf (testAt P .rule) ≡ some ρ → n ≡ byte P 0 → Started s name m → Going s name P ρ n 0 m
-  going-none j w g a c h = record { read = w; good = g; asks = a; fresh = named ∙ j; count = c; within = omega arith; running = running-none P h }
+  pub tried-none : {ρ : Relation} {n : ℕ} {m : Machine} → b ≡ false → SubmissionRead s → badProgram s P ≡ false → relationOf (testAt P .rule) ≡ some ρ → n ≡ byte P 0 → Running s name P 0 m → TriedSoFar s name P ρ n 0 m
+  tried-none j w g a c h = record { read = w; good = g; asks = a; fresh = named ∙ j; count = c; within = omega arith; running = h }
 
 -- ---- Demand 1, run
 pub says-stale-name : (s : List ℕ) (name : ℕ) → Says (isStaleName s name) (StaleName s name)

@@ -7,9 +7,10 @@ use Prim.Native.Nat.{ℕ, _+_, _*_, _≤_, _<_}
 use native.Mathlib.Omega.{arith}
 use lib.Dec.{eqb, leb}
 use lib.ListN.{length, getD, List·getD-eq-default}
-use borrow.Author.Tests.{ne-eqb, le-leb}
+use borrow.Author.Tests.{ne-eqb, le-leb, lt-ltb, le-ltb}
 use Rattle.base.specs.Words.{first}
 use Rattle.base.proofs.First.{first-none, first-some}
+use Rattle.base.proofs.Order.{lt-or-ge}
 use Rattle.base.proofs.Says.{Says, says-eqb, says-and, says-or, says-true, denies, same-test}
 use Rattle.term.specs.Term.{Kind, plain, public, private, otherKind, atom, inverse, leaf, message}
 use Rattle.term.proofs.Table.{leaf-of}
@@ -24,7 +25,7 @@ use Rattle.machine.specs.declared.Found.{Found}
 use Rattle.machine.specs.declared.Found.the-variants.{At, Nothing}
 use Rattle.machine.specs.Run.{StaleName}
 use Rattle.machine.specs.Computed.{isStaleName}
-use Rattle.machine.specs.Code.{atomHead, recordFor, nodeFor, nodeOf, isNodeFrom, foundOf, guessNode, inverseHead, inverseNode, numberIn, TermNodes, PartMarks, isMarked, numberOf, SomeMarked}
+use Rattle.machine.specs.Code.{atomHead, recordFor, nodeFor, nodeOf, isNodeFrom, foundOf, guessNode, inverseHead, inverseNode, numberIn, TermNodes, PartMarks, isMarked, numberOf, lowerOf, SomeMarked}
 use Rattle.machine.proofs.theory.NodeRecords.{atom-record, record-node}
 use Rattle.machine.proofs.theory.NodeSearch.{found-at, found-nothing, says-same}
 use Rattle.machine.proofs.theory.StartState.{facts, atomNode, guess-atom}
@@ -111,6 +112,17 @@ module _ {s hs ls rs : List ℕ} (w : SubmissionRead s) (z : TermNodes s hs ls r
         go (At k) h u = let (b, f) = at-term k h in omega arith
         go Nothing h u = let (j, a, g) = listed-part (facts w .read) q in at-none h j a (sym g)
 
+lower-both : (a b : ℕ) → (lowerOf a b ≤ a) × (lowerOf a b ≤ b)
+lower-both a b = ⊎-elim (λ l. rw (lt-ltb a b l) (omega arith, omega arith)) (λ l. rw (le-ltb a b l) (omega arith, omega arith)) (lt-or-ge a b)
+
+-- ---- the returns of `lower_of`
+module _ {a b : ℕ} where
+  pub lower-first : a < b → a ≡ lowerOf a b
+  lower-first l = rw (lt-ltb a b l)
+
+  pub lower-second : b ≤ a → b ≡ lowerOf a b
+  lower-second l = rw (le-ltb a b l)
+
 inverse-atom : (κ : Kind) (name : ℕ) → inverseNode (atomNode κ name) ≡ atomNode (otherKind κ) name
 inverse-atom plain name = refl
 inverse-atom public name = refl
@@ -158,7 +170,10 @@ module _ {s : List ℕ} (v : Node) (w : SubmissionRead s) {b : ClaimBytes} {g : 
         other-name : v .left ≡ nameAt s (guess s) → ⊥
         other-name h = d (own-is ∙ sym h)
 
-    module _ {i j lowest : ℕ} (h : i ≡ numberOf found n) (k : j ≡ numberOf other n) (low : (lowest ≤ i) × (lowest ≤ j)) where
+    module _ {i j lowest : ℕ} (h : i ≡ numberOf found n) (k : j ≡ numberOf other n) (l : lowest ≡ lowerOf i j) where
+      low : (lowest ≤ i) × (lowest ≤ j)
+      low = rw l (lower-both i j)
+
       pub stale-marked : {r : Bool} → SomeMarked s lowest found other r → r ≡ isStaleName s (v .left)
       stale-marked p =
           p .is ∙ same-test _ _ (Iff·trans (says-or _ _ (says-found w z κ (v .left) c found-is (p .parts) (rw (← h) (low .0))) (says-found w z (otherKind κ) (v .left) c other-is (p .parts) (rw (← k) (low .1)))) stale-iff) (says-stale-name s (v .left))

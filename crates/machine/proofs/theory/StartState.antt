@@ -10,7 +10,7 @@ use mir.Val.{Fits}
 use lib.ListN.{length, getD, set, replicate, length-set, length-replicate}
 use lib.Seq.{getD-set-same, getD-set-other}
 use borrow.Author.Count.{below-more}
-use Rattle.base.specs.Words.{listed}
+use Rattle.base.specs.Words.{grow, listed}
 use Rattle.base.proofs.Grow.{grow-alike}
 use Rattle.term.specs.Term.{Kind, plain, public, private, Shape, atomic, compound, atomKind, atom, leaf, message, void, decoded}
 use Rattle.term.specs.{Number.shapeOf, Computed.kindOf}
@@ -22,10 +22,10 @@ use Rattle.submission.specs.Code.{IsTerm, SubmissionRead}
 use Rattle.submission.proofs.theory.ListedTerms.{Claimed, claimed}
 use Rattle.machine.specs.declared.Node.{Node}
 use Rattle.machine.specs.declared.Found.{Found}
-use Rattle.machine.specs.Run.{initial}
+use Rattle.machine.specs.Run.{initial, registers}
 use Rattle.machine.specs.declared.Machine.{Machine}
 use Rattle.machine.specs.Code.{atoms, atomHead, recordFor, nodeFor, nodeOf, NodeArrays, Placed, numberOf, nodesWith, TermNodes, EntryRegisters, guessNode, numberIn}
-use Rattle.machine.proofs.theory.StateMeaning.{stateOf, nodeAt, termAt, register, values, SoundState, Started}
+use Rattle.machine.proofs.theory.StateMeaning.{stateOf, nodeAt, termAt, register, values, SoundState, Running}
 use Rattle.machine.proofs.theory.NodeRecords.{atom-record, record-node}
 use Rattle.machine.proofs.theory.StateGrowth.{decoded-alike, put-other, put-same, Fit}
 use Rattle.machine.proofs.theory.NodeSearch.{Absent, placed-so, placed-gives}
@@ -109,23 +109,23 @@ module _ {s hs ls rs : List ℕ} {t n : ℕ} (f : Filled s hs ls rs t) (c : n �
 
 -- ---- the knowledge
 -- the registers hold the first i entries
-pub record Entered (s regs : List ℕ) (i : ℕ) : Type 0 where
+pub record EntriesPut (s regs : List ℕ) (i : ℕ) : Type 0 where
   pub long : length regs ≡ 256
   pub is : (k : ℕ) → k < i → getD regs k 0 ≡ entryAt s k
 
-pub entered-none : (s : List ℕ) {regs : List ℕ} → length regs ≡ 256 → Entered s regs 0
-entered-none s e = record { long = e; is = λ k b. absurd (omega arith) }
+pub entries-none : (s : List ℕ) {regs : List ℕ} → length regs ≡ 256 → EntriesPut s regs 0
+entries-none s e = record { long = e; is = λ k b. absurd (omega arith) }
 
-module _ {s regs : List ℕ} {i n : ℕ} (f : Entered s regs i) (c : n ≡ entries s) where
-  pub entered-more : SubmissionRead s → {k a x : ℕ} → i < n → k ≡ i → a ≡ entryAt s i → x ≡ a → Entered s (set regs k x) (i + 1)
-  entered-more w {x = x} b e g h = rw e (record {
+module _ {s regs : List ℕ} {i n : ℕ} (f : EntriesPut s regs i) (c : n ≡ entries s) where
+  pub entries-more : SubmissionRead s → {k a x : ℕ} → i < n → k ≡ i → a ≡ entryAt s i → x ≡ a → EntriesPut s (set regs k x) (i + 1)
+  entries-more w {x = x} b e g h = rw e (record {
     long = simp length-set (f .long);
     is = below-more (λ k. getD (set regs i x) k 0 ≡ entryAt s k) i (λ k l. getD-set-other regs i k x 0 (λ e. omega arith) ∙ f .is k l)
         (getD-set-same regs i x 0 (omega (arith, f .long, facts w .read .entries-most)) ∙ h ∙ g);
   })
 
-  pub entered-all : n ≤ i → EntryRegisters s regs
-  entered-all b = record { long = f .long; is = λ k l. f .is k (omega arith) }
+  pub entries-all : n ≤ i → EntryRegisters s regs
+  entries-all b = record { long = f .long; is = λ k l. f .is k (omega arith) }
 
 -- ---- the guess
 module _ {s : List ℕ} {g : ℕ} {z : TermRead} (w : SubmissionRead s) (e : IsTerm s g z) (f : g ≡ guess s) where
@@ -187,26 +187,26 @@ module _ {s hs ls rs regs : List ℕ} (w : SubmissionRead s) (f : TermNodes s hs
     guess-absent : Absent loaded v 0
     guess-absent = record { none = λ k b. absurd (omega arith) }
 
-    guess-started : {n u : ℕ} {o : Found} {r : Machine} → n ≡ terms s → u ≡ entries s → o ≡ numberIn hs ls rs n v → Placed (stateOf hs ls rs n regs u) v o r → Started s name r
-    unfolding initial guessed
-    guess-started a b e p =
+    guess-started : (P : List ℕ) {n u : ℕ} {o : Found} {r : Machine} → n ≡ terms s → u ≡ entries s → o ≡ numberIn hs ls rs n v → Placed (stateOf hs ls rs n regs u) v o r → Running s name P 0 r
+    unfolding initial guessed registers grow
+    guess-started P a b e p =
         let d = placed-gives 0 guess-fit guess-absent (rw a at e) (rw (a, b) at p) in
         record {
           holds = record {
             sound = d .holds .sound;
             is = d .holds .is ∙ ap₂ (λ vs t. vs ++ t ∷ []) loaded-values (ap (message (termAt loaded)) guess-record ∙ ap (λ o. atom (atomKind o) name) (sym (facts w .guess-shape)));
           };
-          used = d .used;
+          used = omega (arith, d .used);
           few = omega (arith, d .few, facts w .read .terms-most);
         }
 
     -- as the code writes it
-    pub guess-put : NodeArrays hs ls rs → {n u k i a b : ℕ} {o : Found} → n ≡ terms s → u ≡ entries s → o ≡ numberIn hs ls rs n v → k ≡ n → i ≡ u → a ≡ numberOf o n → b ≡ nodesWith o n →
-        Started s name (stateOf (set hs k (v .head)) (set ls k (v .left)) (set rs k (v .right)) b (set regs i a) (u + 1))
-    guess-put arrays {n} {u} {o = o} c d e x y z t =
+    pub guess-put : (P : List ℕ) → NodeArrays hs ls rs → {n u k i a b : ℕ} {o : Found} → n ≡ terms s → u ≡ entries s → o ≡ numberIn hs ls rs n v → k ≡ n → i ≡ u → a ≡ numberOf o n → b ≡ nodesWith o n →
+        Running s name P 0 (stateOf (set hs k (v .head)) (set ls k (v .left)) (set rs k (v .right)) b (set regs i a) (u + 1))
+    guess-put P arrays {n} {u} {o = o} c d e x y z t =
         let room : n < 384 = omega (arith, facts w .read .terms-most) in
         let space : u < 256 = omega (arith, facts w .read .entries-most) in
-        guess-started c d e
+        guess-started P c d e
         (placed-so {m = stateOf hs ls rs n regs u} {v = v} {o = o} (rw (arrays .heads) room) (rw (arrays .lefts) room) (rw (arrays .rights) room) (rw (g .long) space) refl x y z t)
 
 -- there is room for it

@@ -8,7 +8,7 @@ use Rattle.submission.specs.Record.{entries}
 use Rattle.program.specs.Program.{Instruction, operand}
 use Rattle.machine.specs.declared.Node.{Node}
 use Rattle.machine.specs.declared.Operands.{Operands}
-use Rattle.machine.specs.Run.{initial, registers}
+use Rattle.machine.specs.Run.{registers}
 use Rattle.machine.specs.declared.Machine.{Machine}
 use Rattle.machine.specs.Code.{recordFor, nodeFor, nodeOf, operandsOf}
 
@@ -65,12 +65,6 @@ pub record Applies (m : Machine) (i : Instruction) : Type 0 where
   pub right : operand i < m .used
   pub room : m .nodes < 384
   pub space : m .used < 256
-
--- the state m is that before the first instruction
-pub record Started (s : List ℕ) (name : ℕ) (m : Machine) : Type 0 where
-  pub holds : Holds m (initial s name)
-  pub used : m .used ≡ entries s + 1
-  pub few : m .nodes ≤ 251
 
 -- the state m holds the registers' values after n instructions
 pub record Running (s : List ℕ) (name : ℕ) (P : List ℕ) (n : ℕ) (m : Machine) : Type 0 where

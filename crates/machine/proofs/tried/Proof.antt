@@ -3,13 +3,13 @@ use Prim.Native.Nat.{_-_, _<_}
 use mathlib.Core.Path.{_≡_, _∙_}
 use Rattle.term.specs.Code.{relationIs}
 use Rattle.machine.proofs.theory.StartState.{arrays-new, registers-new, guess-room, guess-within, guess-space, guess-left, guess-put}
-use Rattle.machine.proofs.theory.RunAnswer.{Going, tried-stale, going-none, going-executable, going-more, going-left, going-right, going-done}
+use Rattle.machine.proofs.theory.RunAnswer.{TriedSoFar, tried-stale, tried-none, tried-executable, tried-more, tried-left, tried-right, tried-done}
 use borrow.Author.Needs.{needs}
 use Rattle.machine.proofs.tried.Statement.{statement}
 use Rattle.machine.proofs.tried.Tie as tie
 
 abbrev Inv-loop : tie.InvT-loop
-Inv-loop s name program relation terms k entries m₀ n i₀ m i = Going s name program (relationIs relation) n i m
+Inv-loop s name program relation terms k entries m₀ n i₀ m i = TriedSoFar s name program (relationIs relation) n i m
 
 abbrev μ-loop : tie.MeasureT-loop
 μ-loop s name program relation terms k entries m₀ n i₀ m i = n - i
@@ -94,14 +94,14 @@ loop-holds c =
     let stale = c .before .before .before .before .before .before .before .before .is-stale .ensures in
     let many : c .before .before .before .before .before .before .before .before .before .before .before .before .before .before .before .before .before .wide16 .result ≡ c .before .before .before .before .before .before .before .before .before .before .before .before .before .before .before .before .before .before .terms .result = c .before .before .before .before .before .before .before .before .before .before .before .before .before .before .before .before .before .wide16 .ensures in
     let few : c .before .before .before .before .wide162 .result ≡ c .before .before .before .before .before .entries .result = c .before .before .before .before .wide162 .ensures in
-    let started = guess-put (pre .0) terms entries _ node arrays (many ∙ c .before .before .before .before .before .before .before .before .before .before .before .before .before .before .before .before .before .before .terms .ensures) (few ∙ c .before .before .before .before .before .entries .ensures) found (c .before .before .before .before .before .before .index .ensures) (c .before .before .index2 .ensures) (c .before .before .before .number-of .ensures) (c .before .nodes-with .ensures) in
-    going-none _ _ _ node stale (c .before .before .before .before .before .before .before .if1 .left) (pre .0) (pre .1 .0) (pre .1 .1) (c .byte .ensures) started
+    let started = guess-put (pre .0) terms entries _ node _ arrays (many ∙ c .before .before .before .before .before .before .before .before .before .before .before .before .before .before .before .before .before .before .terms .ensures) (few ∙ c .before .before .before .before .before .entries .ensures) found (c .before .before .before .before .before .before .index .ensures) (c .before .before .index2 .ensures) (c .before .before .before .number-of .ensures) (c .before .nodes-with .ensures) in
+    tried-none _ _ _ node stale (c .before .before .before .before .before .before .before .if1 .left) (pre .0) (pre .1 .0) (pre .1 .1) (c .byte .ensures) started
 
 instruction-at-requires : tie.Need-instruction-at-requires Inv-loop μ-loop
 instruction-at-requires c κs = search needs
 
 step-requires : tie.Need-step-requires Inv-loop μ-loop
-step-requires c κs = search going-executable
+step-requires c κs = search tried-executable
 
 add-i : tie.Need-add-i Inv-loop μ-loop
 add-i c = search needs
@@ -110,20 +110,20 @@ loop-less : tie.Need-loop-less Inv-loop μ-loop
 loop-less c = search needs
 
 loop-again : tie.Need-loop-again Inv-loop μ-loop
-loop-again c = search going-more
+loop-again c = search tried-more
 
 test-at-requires : tie.Need-test-at-requires Inv-loop μ-loop
 test-at-requires c κs = search needs
 
 signal-requires : tie.Need-signal-requires Inv-loop μ-loop
 signal-requires c κs =
-    let going = c .before .before .before .before .before .before .before .loop .inv in
+    let inv = c .before .before .before .before .before .before .before .loop .inv in
     let ended = c .before .before .before .before .before .before .loop-test .left in
     let test = c .before .before .before .before .before .test-at .ensures in
-    (going-left going ended test, going-right going ended test)
+    (tried-left inv ended test, tried-right inv ended test)
 
 returns-2 : tie.Need-returns-2 Inv-loop μ-loop
-returns-2 c = search going-done
+returns-2 c = search tried-done
 
 pub tried-spec : {M : Type 1} → statement M
 tried-spec =
