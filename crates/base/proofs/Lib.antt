@@ -1,5 +1,6 @@
 pub mod AnswerLaws
 pub mod BoolLaws
+pub mod Chains
 pub mod First
 pub mod FirstGrowing
 pub mod Grow
@@ -12,4 +13,5 @@ pub mod RefusalLaws
 pub mod Says
 pub mod Scan
 pub mod StageLaws
+pub mod Stores
 pub mod TestChains

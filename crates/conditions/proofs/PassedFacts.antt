@@ -19,7 +19,7 @@ use Rattle.derivation.specs.Step.{StepFits}
 use Rattle.derivation.specs.Code.{IsStep}
 use Rattle.derivation.proofs.theory.StepMeaning.{second-listed, fits-iff, steps-pass}
 use Rattle.deduction.specs.Computed.{entryMarks, isDeducible}
-use Rattle.deduction.specs.Code.{TableRead}
+use Rattle.submission.specs.Code.{TableRead}
 use Rattle.conditions.specs.Computed.{reachable, hasSecondWay, undone, checks1to10}
 use Rattle.derivation.specs.Computed.{checkSteps}
 use Rattle.conditions.specs.Code.{Founded, Acceptable}

@@ -11,16 +11,18 @@ use lib.Seq.{getD-set-other}
 use borrow.Author.Tests.{eq-eqb, ne-eqb}
 use Rattle.term.specs.Code.{Below, isUnary}
 use Rattle.submission.specs.declared.Term.{Term}
-use Rattle.submission.specs.Code.{IsTerm}
+use Rattle.submission.specs.Code.{TableRead, IsTerm}
 use Rattle.term.specs.Term.{Shape, atomic, compound, Rec, leaf, branch}
 use Rattle.term.specs.Number.{shapeOf}
 use Rattle.submission.specs.Record.{terms, kindAt, xAt, yAt, nameAt, recordOf, recordAt}
 use Rattle.deduction.specs.declared.Parts.{Parts}
 use Rattle.deduction.specs.declared.Parts.the-variants.{Nothing, Both}
 use Rattle.deduction.specs.Computed.{at, partsBuilt, built}
-use Rattle.deduction.specs.Code.{TableRead, marksOf, partsOf, code, Memo, Decided, Unbuilt}
+use Rattle.deduction.specs.Code.{marksOf, partsOf, code, Memo, Decided, Unbuilt}
 use Rattle.deduction.proofs.theory.BuildTestLaws.{built-eq}
-use Rattle.deduction.proofs.MarkArrays.{facts, set-here, each-set, zeros, at-marks}
+use Rattle.submission.proofs.theory.ListedTerms.{facts}
+use Rattle.base.proofs.Stores.{set-here, each-set, zeros}
+use Rattle.deduction.proofs.MarkArrays.{at-marks}
 use Rattle.term.specs.Computed.{isAtomic}
 
 pub shape-record : (s : List ℕ) (t : ℕ) (z : Shape) → shapeOf (kindAt s t) ≡ some z → recordAt s t ≡ recordOf (some z) (nameAt s t) (xAt s t) (yAt s t)

@@ -18,9 +18,10 @@ use Rattle.base.specs.Computed.{answered}
 use Rattle.base.specs.declared.Answer.{Answer}
 use Rattle.deduction.specs.Computed.{built, entryMarks, isDeducible, deducibleAnswer}
 use Rattle.submission.specs.Computed.{checks1to4}
-use Rattle.deduction.specs.Code.{TableRead, marksOf, SameMarks, code, Decided, Unbuilt, Exact}
+use Rattle.submission.specs.Code.{TableRead}
+use Rattle.deduction.specs.Code.{marksOf, SameMarks, code, Decided, Unbuilt, Exact}
 use Rattle.deduction.proofs.theory.Exactness.{same-start}
-use Rattle.deduction.proofs.MarkArrays.{facts}
+use Rattle.submission.proofs.theory.ListedTerms.{facts}
 
 -- ---- the build test over saturated marks
 code-says : (b : Bool) → eqb (code b) 1 ≡ b

@@ -16,11 +16,11 @@ use Rattle.term.specs.Number.{shapeOf}
 use Rattle.term.proofs.Kind.{no-inverse}
 use Rattle.term.proofs.Reduce.{match-det}
 use Rattle.submission.specs.declared.Term.{Term}
-use Rattle.submission.specs.Code.{IsTerm}
+use Rattle.submission.specs.Code.{TableRead, IsTerm}
 use Rattle.submission.specs.{Record.terms, Computed.areInverse}
 use Rattle.deduction.specs.Computed.{built, opens}
-use Rattle.deduction.specs.Code.{TableRead, orNone, Inverses}
-use Rattle.deduction.proofs.MarkArrays.{facts}
+use Rattle.deduction.specs.Code.{orNone, Inverses}
+use Rattle.submission.proofs.theory.ListedTerms.{facts}
 use Rattle.submission.specs.Record.{term}
 
 -- ---- finding them

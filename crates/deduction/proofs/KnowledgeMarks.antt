@@ -11,7 +11,8 @@ use Rattle.submission.specs.Record.{entries, entryAt}
 use Rattle.deduction.specs.Computed.{entryMarks}
 use Rattle.deduction.specs.Code.{marksOf, SameMarks}
 use Rattle.deduction.proofs.theory.Exactness.{says-entry}
-use Rattle.deduction.proofs.MarkArrays.{each-set, zeros, says-mark}
+use Rattle.base.proofs.Stores.{each-set, zeros}
+use Rattle.deduction.proofs.MarkArrays.{says-mark}
 
 -- the terms of the first i entries of the knowledge are marked, and no other
 pub record Entered (s : List ℕ) (i : ℕ) (l : List ℕ) : Type 0 where

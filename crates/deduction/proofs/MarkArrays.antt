@@ -1,38 +1,13 @@
--- Arrays of marks: what holds after a store, and what a mark says.
-use mathlib.Core.Path.{_≡_, refl, sym, _∙_}
+-- What a mark says.
+use mathlib.Core.Path.{_≡_, sym, _∙_}
 use mathlib.Core.List.{List}
-use Prim.Native.Nat.{ℕ, zero, suc, _<_}
-use native.Mathlib.Decide.{ℕ-discrete}
+use Prim.Native.Nat.{ℕ}
 use lib.Dec.{eqb}
-use lib.ListN.{length, getD, set, replicate, List·getD-map}
-use lib.Seq.{getD-set-same, getD-set-other}
+use lib.ListN.{getD, List·getD-map}
 use Rattle.base.proofs.Says.{Says, says-eqb}
-use Rattle.submission.proofs.theory.ListedTerms.{Listed, listed}
 use Rattle.deduction.specs.Computed.{at}
-use Rattle.deduction.specs.Code.{TableRead, marksOf}
+use Rattle.deduction.specs.Code.{marksOf}
 
-pub facts : {s : List ℕ} → TableRead s → Listed s
-facts {s} r = listed s (r .bytes) (r .passed)
-
--- ---- stores
-pub set-here : (l : List ℕ) (t v : ℕ) → t < length l → getD (set l t v) t 0 ≡ v
-set-here l t v b = getD-set-same l t v 0 b
-
--- what holds of the stored place and of every other holds of all
-pub each-set : (P : ℕ → ℕ → Type 0) (l : List ℕ) (t v : ℕ) → t < length l → P t v →
-    ((n : ℕ) → (n ≡ t → ⊥) → P n (getD l n 0)) → (n : ℕ) → P n (getD (set l t v) n 0)
-each-set P l t v b here other n = go (ℕ-discrete n t)
-  where
-    go : Dec (n ≡ t) → P n (getD (set l t v) n 0)
-    go (yes e) = rw (e, getD-set-same l t v 0 b) here
-    go (no d) = rw (getD-set-other l t n v 0 d) (other n d)
-
-pub zeros : (k n : ℕ) → _≡_ {A = ℕ} (getD (replicate n 0) k 0) 0
-zeros k zero = refl
-zeros zero (suc n) = refl
-zeros (suc k) (suc n) = zeros k n
-
--- ---- marks
 pub at-marks : (l : List ℕ) (n : ℕ) → at (marksOf l) n ≡ eqb (getD l n 0) 1
 at-marks l n = List·getD-map (λ v. eqb v 1) l n 0
 

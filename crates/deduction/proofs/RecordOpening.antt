@@ -15,13 +15,13 @@ use Rattle.term.specs.{Number.shapeOf, Computed.kindOf}
 use Rattle.term.proofs.Kind.{shape-kind, kind-shape}
 use Rattle.term.proofs.Table.{part-below}
 use Rattle.submission.specs.declared.Term.{Term}
-use Rattle.submission.specs.Code.{IsTerm}
+use Rattle.submission.specs.Code.{TableRead, IsTerm}
 use Rattle.submission.specs.Record.{terms, kindAt, xAt, yAt, nameAt, recordOf, recordAt}
 use Rattle.deduction.specs.declared.Opening.{Opening}
 use Rattle.deduction.specs.declared.Opening.the-variants.{Freely, With, Shut}
 use Rattle.deduction.specs.Computed.{built, gives}
-use Rattle.deduction.specs.Code.{TableRead, marksOf, Inverses, Unbuilt, given, OfTerms, OpensAs, opensBy, Settled}
-use Rattle.deduction.proofs.MarkArrays.{facts}
+use Rattle.deduction.specs.Code.{marksOf, Inverses, Unbuilt, given, OfTerms, OpensAs, opensBy, Settled}
+use Rattle.submission.proofs.theory.ListedTerms.{facts}
 use Rattle.deduction.proofs.InverseTable.{no-key, the-key}
 use Rattle.deduction.proofs.BuildMemo.{shape-record}
 

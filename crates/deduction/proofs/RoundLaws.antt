@@ -19,9 +19,12 @@ use Rattle.deduction.specs.Computed.{built, gives, Marked}
 use Rattle.deduction.specs.declared.Opening.{Opening}
 use Rattle.deduction.specs.declared.Opening.the-variants.{Freely, With, Shut}
 use Rattle.deduction.specs.declared.Round.{Round}
-use Rattle.deduction.specs.Code.{TableRead, marksOf, code, Memo, Decided, given, OfTerms, OpensAs, Settled, SoundMarks, Exact, unmarked, withMark, Swept, TakenApart}
+use Rattle.submission.specs.Code.{TableRead}
+use Rattle.deduction.specs.Code.{marksOf, code, Memo, Decided, given, OfTerms, OpensAs, Settled, SoundMarks, Exact, unmarked, withMark, Swept, TakenApart}
 use Rattle.deduction.proofs.theory.Exactness.{gives-reached, deducible-trans, built-is-deducible}
-use Rattle.deduction.proofs.MarkArrays.{facts, set-here, each-set, says-mark}
+use Rattle.submission.proofs.theory.ListedTerms.{facts}
+use Rattle.base.proofs.Stores.{set-here, each-set}
+use Rattle.deduction.proofs.MarkArrays.{says-mark}
 use Rattle.deduction.proofs.BuildMemo.{memo-none}
 use Rattle.deduction.proofs.RecordOpening.{given-freely, given-with}
 

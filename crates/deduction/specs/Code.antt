@@ -2,20 +2,15 @@
 use mathlib.Core.{Path._≡_, Logic._⊎_, Bool.Bool, Bool.true, Bool.false, Bool._&&_, Bool._||_, Bool.cond, List.List, List.[], List._∷_, List.map, Option.Option, Option.none, Option.some}
 use Prim.Native.Nat.{ℕ, suc, _≤_, _<_}
 use lib.{Dec.eqb, ListN.length, ListN.getD, ListN.set}
-use Rattle.base.specs.{Words.first, Computed.passes, Words.Bytes}
+use Rattle.base.specs.Words.{first}
 use Rattle.term.specs.{Step.Deducible, Term.Rec, Term.leaf, Term.branch}
-use Rattle.submission.specs.{Record.terms, Record.recordAt, Record.term, Computed.areInverse, Computed.checks1to4}
+use Rattle.submission.specs.{Record.terms, Record.recordAt, Record.term, Computed.areInverse}
 use Rattle.deduction.specs.declared.Parts.{Parts}
 use Rattle.deduction.specs.declared.Parts.the-variants.{Nothing, Both}
 use Rattle.deduction.specs.declared.Opening.{Opening}
 use Rattle.deduction.specs.declared.Opening.the-variants.{Freely, With, Shut}
 use Rattle.deduction.specs.declared.Round.{Round}
 use Rattle.deduction.specs.Computed.{at, built, gives, isDeducible, Marked}
-
--- bytes that passed checks 1 to 4
-pub record TableRead (s : List ℕ) : Type 0 where
-  pub bytes : Bytes s
-  pub passed : checks1to4 s ≡ passes
 
 -- a term is marked by 1
 abbrev pub marksOf : List ℕ → List Bool

@@ -15,7 +15,8 @@ ghost use Rattle.submission.specs.Record.{terms, recordAt};
 ghost use Rattle.submission.specs.Computed.{areInverse};
 ghost use Rattle.deduction.specs.Computed.{built, entryMarks, isDeducible, deducibleAnswer};
 ghost use Rattle.base.specs.Answer.{answerOf};
-ghost use Rattle.deduction.specs.Code.{TableRead, marksOf, SameMarks, orNone, Inverses, partsOf, Memo, Decided, Unbuilt, OfTerms, OpensAs, opensBy, Settled, Exact, withMark, Swept, TakenApart};
+ghost use Rattle.submission.specs.Code.{TableRead};
+ghost use Rattle.deduction.specs.Code.{marksOf, SameMarks, orNone, Inverses, partsOf, Memo, Decided, Unbuilt, OfTerms, OpensAs, opensBy, Settled, Exact, withMark, Swept, TakenApart};
 
 // A number for each term number. Of marks, 1 marks the term; those of numbers that are not below T count for nothing.
 pub struct Marks {

@@ -19,7 +19,7 @@ ghost use Rattle.term.specs.Term.{pick};
 ghost use Rattle.term.specs.Code.{relationIs, Below};
 ghost use Rattle.submission.specs.Record.{terms as termCount, recordAt};
 ghost use Rattle.submission.specs.Code.{SubmissionRead};
-ghost use Rattle.deduction.specs.Code.{TableRead};
+ghost use Rattle.submission.specs.Code.{TableRead};
 ghost use mathlib.Core.Option.{some};
 ghost use Rattle.program.specs.Program.{relationOf, testAt};
 ghost use Rattle.program.specs.Code.{instructionIn};

@@ -13,7 +13,8 @@ use lib.ListN.{length, getD, set, replicate, length-set, length-replicate, getD-
 use lib.Seq.{getD-set-same, getD-set-other}
 use borrow.Author.Count.{below-more}
 use borrow.Author.Tests.{eq-eqb, ne-eqb, lt-ltb, le-ltb}
-use Rattle.base.specs.{Computed.any, Code.isSome}
+use Rattle.base.specs.{Words.Bytes, Computed.any, Code.isSome, Code.Chained, Code.Chaining}
+use Rattle.base.proofs.Chains.{Walk, chaining-more, walk-start, walk-end, walk-below, walk-more, walk-less}
 use Rattle.base.proofs.Order.{lt-or-ge}
 use Rattle.base.proofs.First.{first-found}
 use Rattle.base.proofs.Scan.{false-any}
@@ -24,7 +25,7 @@ use Rattle.term.specs.Code.{isUnary, secondOf}
 use Rattle.submission.specs.declared.Term.{Term}
 use Rattle.submission.specs.Record.{kindAt, xAt, yAt}
 use Rattle.term.specs.Computed.{takes, isAtomic}
-use Rattle.submission.specs.Code.{IsTerm, chainedBy, Latest, Chained}
+use Rattle.submission.specs.Code.{IsTerm, chainedBy}
 use Rattle.submission.specs.Computed.{shapeFits, sameRecord}
 use Rattle.submission.proofs.theory.GoodRecord.{says-same}
 
@@ -104,94 +105,39 @@ same-record j p e h = rw (← (p .kind), ← (p .x), ← (p .y)) (sym e ∙ h)
 chain-apart : (s : List ℕ) (i k : ℕ) → (chainedBy s k ≡ chainedBy s i → ⊥) → sameRecord s i k ≡ false
 chain-apart s i k d = denies _ (says-same s i k) .1 (λ (e, (x, y)). d (rw (e, x, y)))
 
-module _ {s : List ℕ} {i y : ℕ} where
-  -- one record more, chained by y or by another byte
-  latest-here : i < 255 → chainedBy s i ≡ y → Latest s (i + 1) y i
-  latest-here l e = record { is = inr (omega arith, e); last = λ k u v w. ⊎-elim (λ x. omega arith) (λ x. omega arith) v }
+chained-byte : (s : List ℕ) → Bytes s → (i : ℕ) → chainedBy s i < 256
+chained-byte s b i = go (isUnary (shapeOf (kindAt s i)))
+  where
+    go : (u : Bool) → cond u (xAt s i) (yAt s i) < 256
+    go true = b _
+    go false = b _
 
-  latest-kept : {b : ℕ} → Latest s i y b → (chainedBy s i ≡ y → ⊥) → Latest s (i + 1) y b
-  latest-kept {b} p d =
-      record {
-        is = ⊎-elim (λ x. inl x) (λ x. let l = x .0 in inr (omega arith, x .1)) (p .is);
-        last = below-more (λ k. (b ≡ 255) ⊎ (b < k) → chainedBy s k ≡ y → ⊥) i (p .last) (λ u. d);
-      }
+-- one record more
+pub record-chained : (s : List ℕ) {before latest : List ℕ} {i w v r n : ℕ} {t : Term} → Chaining (chainedBy s) i before latest → i < n → n < 256 → IsTerm s i t → v ≡ r → r ≡ cond (isUnary (shapeOf (t .kind))) (t .x) (t .y) → w ≡ i → v < 256 →
+    Chaining (chainedBy s) (i + 1) (set before w (getD latest v 0)) (set latest v i)
+record-chained s p l m q f o g h = chaining-more p (omega arith) (sym (f ∙ o ∙ rw (q .kind, q .x, q .y))) g h
 
--- the loop over the terms: the chains of the first i, and for each byte the latest that is chained by it
-pub record Chaining (s : List ℕ) (i : ℕ) (before latest : List ℕ) : Type 0 where
-  pub chained : Chained s i before
-  pub long : length latest ≡ 256
-  pub is : (y : ℕ) → y < 256 → Latest s i y (getD latest y 0)
+-- the walk along the chain of record i: those that it has seen are other records
+abbrev pub Apart : List ℕ → ℕ → ℕ → Type 0
+Apart s i j = Walk (chainedBy s) (λ k. sameRecord s i k ≡ false) i (chainedBy s i) j
 
-pub chaining-none : {s : List ℕ} → Chaining s 0 (replicate 256 255) (replicate 256 255)
-chaining-none {s} =
-    record {
-      chained = record { long = length-replicate {A = ℕ} 256 255; is = λ k b. absurd (omega arith) };
-      long = length-replicate {A = ℕ} 256 255;
-      is = λ y l. record { is = inl (getD-replicate {A = ℕ} 256 y 255 0 l); last = λ k u. absurd (omega arith) };
-    }
+pub apart-start : (s : List ℕ) {before : List ℕ} (i : ℕ) {w : ℕ} → Bytes s → Chained (chainedBy s) (i + 1) before → w ≡ i → Apart s i (getD before w 0)
+apart-start s i b q e = let l = chained-byte s b i in walk-start l (rw e (q .is i (omega arith) l))
 
-pub chaining-more : {s before latest : List ℕ} {i w v r n : ℕ} {t : Term} → Chaining s i before latest → i < n → n < 256 → IsTerm s i t → v ≡ r → r ≡ cond (isUnary (shapeOf (t .kind))) (t .x) (t .y) → w ≡ i → v < 256 →
-    Chaining s (i + 1) (set before w (getD latest v 0)) (set latest v i)
-chaining-more {s} {before} {latest} {i} {w} {v} {r} {n} {t} p l m q f o g h =
-    let y : chainedBy s i ≡ v = sym (f ∙ o ∙ rw (q .kind, q .x, q .y)) in
-    let b : w < length before = omega (arith, p .chained .long) in
-    record {
-      chained = record {
-        long = length-set before w (getD latest v 0) ∙ p .chained .long;
-        is = below-more (λ k. Latest s k (chainedBy s k) (getD (set before w (getD latest v 0)) k 0)) i
-            (λ k c. rw (getD-set-other before w k (getD latest v 0) 0 (λ x. let z : k ≡ i = x ∙ g in omega arith)) (p .chained .is k c))
-            (rw (← g, getD-set-same before w (getD latest v 0) 0 b, g, y) (p .is v h));
-      };
-      long = length-set latest v i ∙ p .long;
-      is = λ a c. by-cases (ℕ-discrete a v)
-          (λ x. rw (x, getD-set-same latest v i 0 (omega (arith, p .long))) (latest-here (omega arith) y))
-          (λ x. rw (getD-set-other latest v a i 0 x) (latest-kept (p .is a c) (λ z. x (sym z ∙ y))));
-    }
+module _ (s : List ℕ) (i : ℕ) {j : ℕ} (p : Apart s i j) where
+  pub apart-end : j ≡ 255 → false ≡ any (sameRecord s i) i
+  apart-end e =
+      false-any
+      (record { within = le-refl i; failed = λ k l. by-cases (ℕ-discrete (chainedBy s k) (chainedBy s i)) (walk-end p e k l) (chain-apart s i k) })
+      (le-refl i)
 
--- the walk along a chain: no record from `past` on is record i, and j is the latest before it in the same chain
-pub record Walk (s : List ℕ) (i j : ℕ) : Type 0 where
-  pub past : ℕ
-  pub within : past ≤ i
-  pub apart : (k : ℕ) → past ≤ k → k < i → sameRecord s i k ≡ false
-  pub next : Latest s past (chainedBy s i) j
+  pub apart-hit : (j ≡ 255 → ⊥) → sameRecord s i j ≡ true → true ≡ any (sameRecord s i) i
+  unfolding any
+  apart-hit d t = let (k, f, u, v) = first-found (sameRecord s i) i j (walk-below p d) t in sym (ap isSome f)
 
-module _ {s : List ℕ} {i j : ℕ} (p : Walk s i j) where
-  -- a record that the walk has gone past
-  passed-by : (k : ℕ) → k < i → (j ≡ 255) ⊎ (j < k) → sameRecord s i k ≡ false
-  passed-by k l g =
-      ⊎-elim (λ b. chain-apart s i k (p .next .last k b g)) (λ b. p .apart k b l) (lt-or-ge k (p .past))
+  module _ {before : List ℕ} {w : ℕ} (d : j ≡ 255 → ⊥) (q : Chained (chainedBy s) (i + 1) before) (e : w ≡ j) where
+    pub apart-more : sameRecord s i j ≡ false → Apart s i (getD before w 0)
+    apart-more f = walk-more p d q (omega arith) e f
 
-  pub walk-end : j ≡ 255 → false ≡ any (sameRecord s i) i
-  walk-end e = false-any (record { within = le-refl i; failed = λ k l. passed-by k l (inl e) }) (le-refl i)
-
-  module _ (d : j ≡ 255 → ⊥) where
-    pub walk-below : j < i
-    walk-below = ⊎-elim (λ x. absurd (d x)) (λ x. let l = x .0 in omega (arith, p .within)) (p .next .is)
-
-    same-chain : chainedBy s j ≡ chainedBy s i
-    same-chain = ⊎-elim (λ x. absurd (d x)) (λ x. x .1) (p .next .is)
-
-    pub walk-hit : sameRecord s i j ≡ true → true ≡ any (sameRecord s i) i
-    unfolding any
-    walk-hit t = let (k, f, u, v) = first-found (sameRecord s i) i j walk-below t in sym (ap isSome f)
-
-module _ {s before : List ℕ} {i : ℕ} (c : Chained s (i + 1) before) where
-  pub walk-start : {w : ℕ} → w ≡ i → Walk s i (getD before w 0)
-  walk-start e = record { past = i; within = le-refl i; apart = λ k u v. absurd (omega arith); next = rw e (c .is i (omega arith)) }
-
-  module _ {j w : ℕ} (p : Walk s i j) (d : j ≡ 255 → ⊥) (e : w ≡ j) where
-    lower : Latest s j (chainedBy s i) (getD before w 0)
-    lower = let b = walk-below p d in rw (e, ← (same-chain p d)) (c .is j (omega arith))
-
-    pub walk-more : sameRecord s i j ≡ false → Walk s i (getD before w 0)
-    walk-more f =
-        let b = walk-below p d in
-        record {
-          past = j;
-          within = omega arith;
-          apart = λ k u v. ⊎-elim (λ x. ap (sameRecord s i) (sym x) ∙ f) (λ x. passed-by p k v (inr x)) (eq-or-lt-of-le u);
-          next = lower;
-        }
-
-    pub walk-less : i < 256 → (getD before w 0 + 1) % 256 < (j + 1) % 256
-    walk-less m = let b = walk-below p d in ⊎-elim (λ x. omega arith) (λ x. let y = x .0 in omega arith) (lower .is)
+    pub apart-less : i < 256 → (getD before w 0 + 1) % 256 < (j + 1) % 256
+    apart-less m = walk-less p d q (omega arith) e m

@@ -1,5 +1,5 @@
 -- What the code's records mean in document 01's terms.
-use mathlib.Core.{Path._≡_, Logic._⊎_, Bool.cond, List.List, Option.Option, Option.none, Option.some}
+use mathlib.Core.{Path._≡_, Bool.cond, List.List, Option.Option, Option.none, Option.some}
 use Prim.Native.Nat.{ℕ, _+_, _*_, _≤_, _<_}
 use lib.ListN.{length, getD}
 use Rattle.submission.specs.declared.Term.{Term}
@@ -16,7 +16,7 @@ use Rattle.submission.specs.declared.Operand.the-variants.{VerifyingResu
 use Rattle.submission.specs.declared.Row.{Row as RowRead}
 use Rattle.submission.specs.declared.Reading.{Reading}
 use Rattle.submission.specs.declared.Reading.the-variants.{Good, Refused}
-use Rattle.submission.specs.{Check.Way, Check.another-step, Check.at-start, Check.inverse-key, Check.wayOf, Check.Range, Check.step-number, Check.term-number, Check.zero-only, Check.Operand, Check.verifying-result, Check.companion-result, Check.lowest-conclusion, Check.lowest-companion, Check.Row, Record.start, Record.count, Record.terms, Record.kindAt, Record.xAt, Record.yAt, Record.guess, Record.verifying, Record.wayAt, Record.companion, Record.InKnowledge, Computed.checks1to5}
+use Rattle.submission.specs.{Check.Way, Check.another-step, Check.at-start, Check.inverse-key, Check.wayOf, Check.Range, Check.step-number, Check.term-number, Check.zero-only, Check.Operand, Check.verifying-result, Check.companion-result, Check.lowest-conclusion, Check.lowest-companion, Check.Row, Record.start, Record.count, Record.terms, Record.kindAt, Record.xAt, Record.yAt, Record.guess, Record.verifying, Record.wayAt, Record.companion, Record.InKnowledge, Computed.checks1to4, Computed.checks1to5}
 use Rattle.term.specs.Term as words
 use Rattle.term.specs.Code.{relationIs, isUnary}
 use Rattle.term.specs.Number.{shapeOf}
@@ -32,6 +32,11 @@ pub record IsTerm (s : List ℕ) (i : ℕ) (t : Term) : Type 0 where
   pub kind : t .kind ≡ kindAt s i
   pub x : t .x ≡ xAt s i
   pub y : t .y ≡ yAt s i
+
+-- bytes that passed checks 1 to 4
+pub record TableRead (s : List ℕ) : Type 0 where
+  pub bytes : Bytes s
+  pub passed : checks1to4 s ≡ passes
 
 -- bytes that passed checks 1 to 5
 pub record SubmissionRead (s : List ℕ) : Type 0 where
@@ -101,16 +106,6 @@ pub record ReadingIs (s : List ℕ) (d : Check) (r : Reading) : Type 0 where
 -- the byte by which records are chained: y, or x for a kind with one operand, whose y is 0
 abbrev pub chainedBy : List ℕ → ℕ → ℕ
 chainedBy s i = cond (isUnary (shapeOf (kindAt s i))) (xAt s i) (yAt s i)
-
--- b numbers the latest of the first i terms that is chained by y, and 255 stands for none
-pub record Latest (s : List ℕ) (i y b : ℕ) : Type 0 where
-  pub is : (b ≡ 255) ⊎ ((b < i) × (chainedBy s b ≡ y))
-  pub last : (k : ℕ) → k < i → (b ≡ 255) ⊎ (b < k) → chainedBy s k ≡ y → ⊥
-
--- before has, for each of the first n terms, the latest earlier one that is chained by the same byte
-pub record Chained (s : List ℕ) (n : ℕ) (before : List ℕ) : Type 0 where
-  pub long : length before ≡ 256
-  pub is : (k : ℕ) → k < n → Latest s k (chainedBy s k) (getD before k 0)
 
 -- what the limits say of the counts that programs and registers are made of
 pub record Limited (s : List ℕ) : Type 0 where

@@ -18,8 +18,8 @@ ghost use Rattle.submission.specs.Record.{letter, count as countIn, star
 ghost use Rattle.submission.specs.Computed.{areInverse, badContents, checkLimits, inRange, claimFits, shapeFits, sameRecord, badTerm, badKnowledge, goodClaim, checks1to4, checks1to5};
 ghost use Rattle.submission.specs.Check.{wayOf, row};
 ghost use Rattle.base.specs.Computed.{any, failsAt, failsIf};
-ghost use Rattle.base.specs.Code.{checkOf};
-ghost use Rattle.submission.specs.Code.{Starts, IsTerm, wayIs, letterIs, rangeIs, rowIs, IsClaimBytes, IsClaim, readingCheck, ReadingIs, Chained};
+ghost use Rattle.base.specs.Code.{checkOf, Chained};
+ghost use Rattle.submission.specs.Code.{Starts, IsTerm, wayIs, letterIs, rangeIs, rowIs, IsClaimBytes, IsClaim, readingCheck, ReadingIs, chainedBy};
 
 // Where the first body starts.
 pub const CONTENTS_SIZE: usize = 16;
@@ -290,7 +290,7 @@ fn is_record(s: &[u8], j: u8, t: Term) -> bool
 
 // Whether an earlier record equals record i. Only those of its chain are compared, the latest first.
 fn is_repeated(s: &[u8], before: &[u8; 256], i: u8) -> bool
-    requires { ⌜ Chained (now s) (i + 1) (now before) ⌝ }
+    requires { ⌜ Chained (chainedBy (now s)) (i + 1) (now before) ⌝ }
     ensures { λ r. ⌜ r ≡ any (sameRecord (now (s .entry)) i) i ⌝ }
 {
     let t = term_at(s, i);
@@ -305,7 +305,7 @@ fn is_repeated(s: &[u8], before: &[u8; 256], i: u8) -> bool
 }
 
 fn is_term_bad(s: &[u8], before: &[u8; 256], i: u8) -> bool
-    requires { ⌜ Chained (now s) (i + 1) (now before) ⌝ }
+    requires { ⌜ Chained (chainedBy (now s)) (i + 1) (now before) ⌝ }
     ensures { λ r. ⌜ r ≡ badTerm (now (s .entry)) i ⌝ }
 {
     if shape_fits(s, i) {

@@ -16,11 +16,13 @@ use Rattle.term.specs.Code.{Below}
 use Rattle.term.proofs.Reduce.{part-self}
 use Rattle.term.proofs.PartLaws.{part-trans, OfParts, part-listed}
 use Rattle.submission.specs.Record.{terms, entries, entryAt, recordAt, term}
-use Rattle.submission.specs.Code.{KnownPart}
+use Rattle.submission.specs.Code.{TableRead, KnownPart}
 use Rattle.deduction.specs.Computed.{entryMarks}
-use Rattle.deduction.specs.Code.{TableRead, marksOf, SameMarks}
+use Rattle.deduction.specs.Code.{marksOf, SameMarks}
 use Rattle.deduction.proofs.theory.Exactness.{says-entry}
-use Rattle.deduction.proofs.MarkArrays.{facts, each-set, says-mark}
+use Rattle.submission.proofs.theory.ListedTerms.{facts}
+use Rattle.base.proofs.Stores.{each-set}
+use Rattle.deduction.proofs.MarkArrays.{says-mark}
 use Rattle.machine.specs.Code.{atoms, recordFor, recordsIn, TermNodes, withParts, treated, PartMarks}
 use Rattle.machine.proofs.theory.NodeRecords.{record-node}
 

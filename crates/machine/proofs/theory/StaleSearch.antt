@@ -19,7 +19,7 @@ use Rattle.submission.specs.declared.ClaimBytes.{ClaimBytes}
 use Rattle.submission.specs.Record.{terms, guess, nameAt, recordAt, term, guessed}
 use Rattle.submission.specs.Code.{IsTerm, IsClaimBytes, SubmissionRead, KnownPart}
 use Rattle.submission.proofs.{PassedChecks.body-passes, theory.StaleTests.listed-part}
-use Rattle.deduction.specs.Code.{TableRead}
+use Rattle.submission.specs.Code.{TableRead}
 use Rattle.machine.specs.declared.Node.{Node}
 use Rattle.machine.specs.declared.Found.{Found}
 use Rattle.machine.specs.declared.Found.the-variants.{At, Nothing}

@@ -5,12 +5,15 @@ use Rattle.base.proofs.Scan.{scan}
 use Rattle.base.proofs.First.{Passed, passed-none}
 use Rattle.base.proofs.StageLaws.{fails-hit, passes-all}
 use Rattle.submission.specs.Computed.{badTerm}
-use Rattle.submission.proofs.TermTests.{Chaining, chaining-none, chaining-more}
+use Rattle.base.specs.Code.{Chaining}
+use Rattle.base.proofs.Chains.{chaining-none}
+use Rattle.submission.specs.Code.{chainedBy}
+use Rattle.submission.proofs.TermTests.{record-chained}
 use Rattle.submission.proofs.check_terms.Statement.{statement}
 use Rattle.submission.proofs.check_terms.Tie as tie
 
 abbrev Inv-loop : tie.InvT-loop
-Inv-loop s n before₀ latest₀ i₀ before latest i = Passed (badTerm s) n i × Chaining s i before latest
+Inv-loop s n before₀ latest₀ i₀ before latest i = Passed (badTerm s) n i × Chaining (chainedBy s) i before latest
 
 abbrev μ-loop : tie.MeasureT-loop
 μ-loop s n before₀ latest₀ i₀ before latest i = n - i
@@ -49,7 +52,7 @@ is-term-bad-requires c κs =
     let at = e .before .before in
     let m : at .before .before .terms .result < 256 = omega arith in
     let h : d .before .wide .result < 256 = omega arith in
-    chaining-more (at .before .loop .inv .1) (at .loop-test .taken) m (e .before .term-at .ensures) (d .before .wide .ensures) (e .second-part .ensures) (d .wide2 .ensures) h .chained
+    record-chained _ (at .before .loop .inv .1) (at .loop-test .taken) m (e .before .term-at .ensures) (d .before .wide .ensures) (e .second-part .ensures) (d .wide2 .ensures) h .chained
 
 wide16-requires : tie.Need-wide16-requires Inv-loop μ-loop
 wide16-requires c κs = search scan
@@ -70,7 +73,7 @@ loop-again c =
     let at = e .before .before in
     let m : at .before .before .terms .result < 256 = omega arith in
     let h : d .before .wide .result < 256 = omega arith in
-    (search scan, chaining-more (at .before .loop .inv .1) (at .loop-test .taken) m (e .before .term-at .ensures) (d .before .wide .ensures) (e .second-part .ensures) (d .wide2 .ensures) h)
+    (search scan, record-chained _ (at .before .loop .inv .1) (at .loop-test .taken) m (e .before .term-at .ensures) (d .before .wide .ensures) (e .second-part .ensures) (d .wide2 .ensures) h)
 
 returns-2 : tie.Need-returns-2 Inv-loop μ-loop
 returns-2 c = search (passes-all, scan)

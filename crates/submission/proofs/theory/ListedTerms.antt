@@ -20,6 +20,7 @@ use Rattle.term.specs.Computed.{isAtomic}
 use Rattle.base.specs.Computed.{passes, failsIf, failsAt}
 use Rattle.submission.specs.{Record.count, Record.least, Record.most, Record.terms, Record.entries, Record.steps, Record.kindAt, Record.xAt, Record.yAt, Record.nameAt, Record.entryAt, Record.guess, Record.verifying, Record.wayAt, Record.companion, Record.recordOf, Record.recordAt, Record.term, Computed.areInverse}
 use Rattle.submission.specs.Check.{HasSecond, Shaped, ClaimFits, Way, another-step, at-start, inverse-key, wayOf, Range, step-number, term-number, zero-only, row, InRange}
+use Rattle.submission.specs.Code.{TableRead}
 use Rattle.submission.specs.Computed.{badCount, badContents, inRange, claimFits, badTerm, badKnowledge, goodClaim, checks1to4, checks1to5}
 use Rattle.base.proofs.AnswerLaws.{if-passes, at-passes, then-passes}
 use Rattle.submission.proofs.theory.GoodRecord.{secondPart, second-below, Good, good, name-bytes, same-record}
@@ -195,6 +196,9 @@ listed s b e =
       same-number = decode-inj t;
       entry-below = λ i l. says-ltb _ _ .0 (not-not-false _ .0 (or-false _ _ .0 (bad-entry i l) .0));
     }
+
+pub facts : {s : List ℕ} → TableRead s → Listed s
+facts {s} r = listed s (r .bytes) (r .passed)
 
 -- a listed compound term, by its record's kind
 pub compound-term : {s : List ℕ} → Listed s → (i : ℕ) (f : Form) → i < terms s → kindAt s i ≡ kindOf (compound f) →
