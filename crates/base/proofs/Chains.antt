@@ -82,8 +82,8 @@ module _ {c : ℕ → ℕ} {P : ℕ → Type 0} {i y j : ℕ} (p : Walk c P i y 
   walk-end e k l = passed-by k l (inl e)
 
   -- what holds of those seen may be weakened
-  pub walk-weaker : {Q : ℕ → Type 0} → ((k : ℕ) → P k → Q k) → Walk c Q i y j
-  walk-weaker f = record { byte = p .byte; past = p .past; within = p .within; seen = λ k u v e. f k (p .seen k u v e); next = p .next }
+  pub walk-weaker : {Q : ℕ → Type 0} → ((k : ℕ) → k < i → P k → Q k) → Walk c Q i y j
+  walk-weaker f = record { byte = p .byte; past = p .past; within = p .within; seen = λ k u v e. f k v (p .seen k u v e); next = p .next }
 
   module _ (d : j ≡ 255 → ⊥) where
     pub walk-below : j < i

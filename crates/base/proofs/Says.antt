@@ -20,7 +20,7 @@ true-or-false false = inr refl
 pub says-true : (b : Bool) → Says b (b ≡ true)
 says-true b = (λ e. e, λ e. e)
 
-not-is-true : (a : Bool) → (not a ≡ true) ↔ (a ≡ false)
+pub not-is-true : (a : Bool) → (not a ≡ true) ↔ (a ≡ false)
 not-is-true true = (λ e. absurd (false≢true e), λ e. absurd (true≢false e))
 not-is-true false = (λ e. refl, λ e. refl)
 

@@ -51,7 +51,7 @@ module _ {s : List ℕ} {t : ℕ} {a : Term} {b : Bool} (w : TableRead s) (l : t
           rw (g, k, r .x, r .y) (sym (ap partsOf (shape-record s t (compound c) f)))
 
 -- they are earlier, and a term is built when they are
-both-parts : (r : Rec) {x y : ℕ} → partsOf r ≡ Both x y → ((n : ℕ) → Below n r → (x < n) × (y < n)) × ((b : ℕ → Bool) → partsBuilt b r ≡ (b x && b y))
+pub both-parts : (r : Rec) {x y : ℕ} → partsOf r ≡ Both x y → ((n : ℕ) → Below n r → (x < n) × (y < n)) × ((b : ℕ → Bool) → partsBuilt b r ≡ (b x && b y))
 both-parts (leaf κ n) e = absurd (let z : _≡_ {A = ℕ} 0 1 = cc in omega arith)
 both-parts (branch h i j) {x} {y} e =
     let p : i ≡ x = cc in

@@ -19,7 +19,7 @@ use Rattle.submission.specs.declared.Term.{Term}
 use Rattle.submission.specs.Code.{TableRead, IsTerm}
 use Rattle.submission.specs.{Record.terms, Computed.areInverse}
 use Rattle.deduction.specs.Computed.{built, opens}
-use Rattle.deduction.specs.Code.{orNone, Inverses}
+use Rattle.deduction.specs.Code.{orNone, inverseOf, Inverses}
 use Rattle.submission.proofs.theory.ListedTerms.{facts}
 use Rattle.submission.specs.Record.{term}
 
@@ -62,34 +62,31 @@ pub inverses-all : {s l : List ℕ} {i n : ℕ} → Inverses s i l → n ≤ i �
 inverses-all {s} {l} {i} {n} p b e = let q : i ≡ terms s = omega (arith, p .within) in subst (λ k. Inverses s k l) q p
 
 -- ---- what opens an asymmetric encryption under the key y
-module _ {s inverses : List ℕ} (v : TableRead s) (u : Inverses s (terms s) inverses) {y k : ℕ} (l : y < terms s) (e : k ≡ y) where
-  found : (o : Option ℕ) → first (areInverse s y) (terms s) ≡ o → getD inverses k 0 ≡ orNone o
-  found o f = ap (λ n. getD inverses n 0) e ∙ u .is y l ∙ ap orNone f
-
+module _ {s : List ℕ} (v : TableRead s) {y : ℕ} (l : y < terms s) where
   says-key : (m : List Bool) → Says (opens asymmetric s m y) ((j : ℕ) × (j < terms s) × ((areInverse s y j ≡ true) × (built s m j ≡ true)))
   says-key m =
       says-any (λ j. areInverse s y j && built s m j) (terms s) (λ j b. says-and _ _ (says-true (areInverse s y j)) (says-true (built s m j)))
 
   -- none is listed
-  pub no-key : getD inverses k 0 ≡ 255 → (m : List Bool) → opens asymmetric s m y ≡ false
+  pub no-key : inverseOf s y ≡ 255 → (m : List Bool) → opens asymmetric s m y ≡ false
   no-key f m = denies _ (says-key m) .1 (go (first (areInverse s y) (terms s)) refl)
     where
       go : (o : Option ℕ) → first (areInverse s y) (terms s) ≡ o → (j : ℕ) × (j < terms s) × ((areInverse s y j ≡ true) × (built s m j ≡ true)) → ⊥
       go none g w = true≢false (sym (w .2 .0) ∙ first-none _ _ g (w .0) (w .1))
-      go (some j) g w = let b = first-some _ _ j g .0 in let c = facts v .terms-most in let h = found (some j) g in omega arith
+      go (some j) g w = let b = first-some _ _ j g .0 in let c = facts v .terms-most in let h : j ≡ 255 = sym (ap orNone g) ∙ f in omega arith
 
   -- one is listed, and no other
-  pub the-key : (getD inverses k 0 ≡ 255 → ⊥) →
-      (getD inverses k 0 < terms s) × ((m : List Bool) → opens asymmetric s m y ≡ built s m (getD inverses k 0))
+  pub the-key : (inverseOf s y ≡ 255 → ⊥) →
+      (inverseOf s y < terms s) × ((m : List Bool) → opens asymmetric s m y ≡ built s m (inverseOf s y))
   the-key d = go (first (areInverse s y) (terms s)) refl
     where
       go : (o : Option ℕ) → first (areInverse s y) (terms s) ≡ o →
-          (getD inverses k 0 < terms s) × ((m : List Bool) → opens asymmetric s m y ≡ built s m (getD inverses k 0))
-      go none g = absurd (d (found none g))
+          (inverseOf s y < terms s) × ((m : List Bool) → opens asymmetric s m y ≡ built s m (inverseOf s y))
+      go none g = absurd (d (ap orNone g))
       go (some j) g =
           let (b, a, _) = first-some _ _ j g in
           let z = facts v in
-          rw (found (some j) g) (
+          rw g (
             b,
             λ m. same-test (opens asymmetric s m y) (built s m j) (says-key m) (
               λ t. (j, b, (a, t)),

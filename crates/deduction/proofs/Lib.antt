@@ -3,8 +3,11 @@ pub mod theory
 -- Laws shaped for the proofs of single functions: what each store, each turn and each return gives.
 pub mod BuildMemo
 pub mod CallReturns
+pub mod Clauses
+pub mod Firing
 pub mod InverseTable
 pub mod KnowledgeMarks
 pub mod MarkArrays
+pub mod MarkOrder
 pub mod RecordOpening
-pub mod RoundLaws
+pub mod Saturation

@@ -1,7 +1,7 @@
--- What opens a record: the returns of `opening_of` and of `is_settled`.
+-- What opens a record: the returns of `opening_of`, and what an opening gives.
 use mathlib.Core.Path.{_≡_, refl, sym, ap, _∙_, subst}
 use mathlib.Core.Logic.{_⊎_, ⊎-elim}
-use mathlib.Core.Bool.{Bool, true, false, _&&_, cond, false≢true, true≢false}
+use mathlib.Core.Bool.{Bool, true, false, _&&_, _||_, cond, false≢true, true≢false}
 use mathlib.Core.List.{List}
 use mathlib.Core.Option.{some}
 use Prim.Native.Nat.{ℕ, _<_}
@@ -9,19 +9,18 @@ use lib.Dec.{eqb}
 use lib.ListN.{getD}
 use borrow.Author.Tests.{ne-eqb, eqb-true, eqb-false}
 use Rattle.base.proofs.BoolLaws.{and-right}
-use Rattle.base.proofs.Says.{says-eqb, says-or, says-and, says-true}
-use Rattle.term.specs.Term.{symmetric, asymmetric, Form, pair, hash, encryption, Head, make, Shape, atomic, compound, branch}
+use Rattle.term.specs.Term.{symmetric, asymmetric, Form, pair, hash, encryption, Head, make, part, decrypt, Shape, atomic, compound, Rec, leaf, branch}
 use Rattle.term.specs.{Number.shapeOf, Computed.kindOf}
 use Rattle.term.proofs.Kind.{shape-kind, kind-shape}
 use Rattle.term.proofs.Table.{part-below}
 use Rattle.submission.specs.declared.Term.{Term}
 use Rattle.submission.specs.Code.{TableRead, IsTerm}
 use Rattle.submission.specs.Record.{terms, kindAt, xAt, yAt, nameAt, recordOf, recordAt}
+use Rattle.submission.proofs.theory.ListedTerms.{facts}
 use Rattle.deduction.specs.declared.Opening.{Opening}
 use Rattle.deduction.specs.declared.Opening.the-variants.{Freely, With, Shut}
 use Rattle.deduction.specs.Computed.{built, gives}
-use Rattle.deduction.specs.Code.{marksOf, Inverses, Unbuilt, given, OfTerms, OpensAs, opensBy, Settled}
-use Rattle.submission.proofs.theory.ListedTerms.{facts}
+use Rattle.deduction.specs.Code.{inverseOf, Inverses, opensBy, openingIn, openingOf}
 use Rattle.deduction.proofs.InverseTable.{no-key, the-key}
 use Rattle.deduction.proofs.BuildMemo.{shape-record}
 
@@ -30,48 +29,32 @@ module _ {s : List ℕ} {t : ℕ} {a : Term} (v : TableRead s) (l : t < terms s)
   kind-record : (f : Form) → a .kind ≡ kindOf (compound f) → recordAt s t ≡ recordOf (some (compound f)) (nameAt s t) (xAt s t) (yAt s t)
   kind-record f k = shape-record s t (compound f) (ap shapeOf (sym (i .kind) ∙ k) ∙ kind-shape (compound f))
 
-  below : {h : Head} → recordAt s t ≡ branch h (xAt s t) (yAt s t) → (a .x < terms s) × (a .y < terms s)
-  below r = rw (i .x, i .y) (part-below (facts v .table) t l r)
+  pub opens-freely : a .kind ≡ kindOf (compound pair) → Freely (a .x) (a .y) ≡ openingOf s t
+  opens-freely k = rw (kind-record pair k, i .x, i .y)
 
-  pub opens-freely : a .kind ≡ kindOf (compound pair) → OpensAs s t (Freely (a .x) (a .y))
-  opens-freely k =
-      let r = kind-record pair k in
-      record { listed = below r; is = λ m n. rw (r, i .x, i .y) }
+  pub opens-symmetric : a .kind ≡ kindOf (compound (encryption symmetric)) → With (a .x) (a .y) ≡ openingOf s t
+  opens-symmetric k = rw (kind-record (encryption symmetric) k, i .x, i .y)
 
-  pub opens-symmetric : a .kind ≡ kindOf (compound (encryption symmetric)) → OpensAs s t (With (a .x) (a .y))
-  opens-symmetric k =
-      let r = kind-record (encryption symmetric) k in
-      record { listed = below r; is = λ m n. rw (r, i .x, i .y) }
-
-  module _ {inverses : List ℕ} (u : Inverses s (terms s) inverses) {k : ℕ} (f : k ≡ a .y) (six : a .kind ≡ kindOf (compound (encryption asymmetric))) where
-    rec : recordAt s t ≡ branch (make (encryption asymmetric)) (xAt s t) (yAt s t)
-    rec = kind-record (encryption asymmetric) six
-
-    key-term : yAt s t < terms s
-    key-term = part-below (facts v .table) t l rec .1
-
-    opens-by : (b : Bool) → eqb (getD inverses k 0) 255 ≡ b → OpensAs s t (cond b Shut (With (a .x) (getD inverses k 0)))
-    opens-by true g = record { listed = tt; is = λ m n. rw rec (and-right (eqb n (xAt s t)) _ (no-key v u key-term (f ∙ i .y) (eqb-true _ 255 g) m)) }
-    opens-by false g =
-        let (b, e) = the-key v u key-term (f ∙ i .y) (eqb-false _ 255 g) in
-        record { listed = (below rec .0, b); is = λ m n. rw (rec, i .x) (ap (λ c. eqb n (xAt s t) && c) (e m)) }
-
-    pub opens-asymmetric : {o : Opening} → o ≡ opensBy (a .x) (getD inverses k 0) → OpensAs s t o
-    opens-asymmetric g = subst (OpensAs s t) (sym g) (opens-by (eqb (getD inverses k 0) 255) refl)
+  pub opens-asymmetric : {inverses : List ℕ} {k : ℕ} {o : Opening} → Inverses s (terms s) inverses → k ≡ a .y →
+      a .kind ≡ kindOf (compound (encryption asymmetric)) → o ≡ opensBy (a .x) (getD inverses k 0) → o ≡ openingOf s t
+  opens-asymmetric {inverses} {k} u f six g =
+      let r = kind-record (encryption asymmetric) six in
+      let e : getD inverses k 0 ≡ inverseOf s (yAt s t) = ap (λ n. getD inverses n 0) (f ∙ i .y) ∙ u .is (yAt s t) (part-below (facts v .table) t l r .1) in
+      rw (g, r, e, i .x)
 
   pub opens-other : (a .kind ≡ kindOf (compound pair) → ⊥) → (a .kind ≡ kindOf (compound (encryption symmetric)) → ⊥) →
-      (a .kind ≡ kindOf (compound (encryption asymmetric)) → ⊥) → OpensAs s t Shut
-  opens-other b c d = record { listed = tt; is = λ m n. go m n (facts v .good t l .shape) (facts v .good t l .has) }
+      (a .kind ≡ kindOf (compound (encryption asymmetric)) → ⊥) → Shut ≡ openingOf s t
+  opens-other b c d = go (facts v .good t l .shape) (facts v .good t l .has)
     where
       kind : (w : Shape) → shapeOf (kindAt s t) ≡ some w → a .kind ≡ kindOf w
       kind w e = i .kind ∙ shape-kind (kindAt s t) w e
 
-      go : (m : List Bool) (n : ℕ) (w : Shape) → shapeOf (kindAt s t) ≡ some w → gives s m (recordAt s t) n ≡ false
-      go m n (atomic κ) e = rw (shape-record s t (atomic κ) e)
-      go m n (compound pair) e = absurd (b (kind (compound pair) e))
-      go m n (compound hash) e = rw (shape-record s t (compound hash) e)
-      go m n (compound (encryption symmetric)) e = absurd (c (kind (compound (encryption symmetric)) e))
-      go m n (compound (encryption asymmetric)) e = absurd (d (kind (compound (encryption asymmetric)) e))
+      go : (w : Shape) → shapeOf (kindAt s t) ≡ some w → Shut ≡ openingOf s t
+      go (atomic κ) e = rw (shape-record s t (atomic κ) e)
+      go (compound pair) e = absurd (b (kind (compound pair) e))
+      go (compound hash) e = rw (shape-record s t (compound hash) e)
+      go (compound (encryption symmetric)) e = absurd (c (kind (compound (encryption symmetric)) e))
+      go (compound (encryption asymmetric)) e = absurd (d (kind (compound (encryption asymmetric)) e))
 
 -- a key, or none
 pub by-no-key : {key : ℕ} (body : ℕ) → key ≡ 255 → Shut ≡ opensBy body key
@@ -80,37 +63,47 @@ by-no-key body e = rw e
 pub by-key : {key : ℕ} (body : ℕ) → (key ≡ 255 → ⊥) → With body key ≡ opensBy body key
 by-key body d = rw (ne-eqb _ 255 d)
 
--- ---- what it gives, and its numbers, by the cases
-pub given-freely : (s : List ℕ) (m : List Bool) (x y n : ℕ) → given s m (Freely x y) n ≡ true → (n ≡ x) ⊎ (n ≡ y)
-given-freely s m x y n = says-or (eqb n x) (eqb n y) (says-eqb n x) (says-eqb n y) .0
+-- ---- what an opening gives
+-- taking apart what opens so gives the term n, over the marks m
+abbrev pub given : List ℕ → List Bool → Opening → ℕ → Bool
+given s m (Freely x y) n = eqb n x || eqb n y
+given s m (With body key) n = eqb n body && built s m key
+given s m Shut n = false
 
-pub given-with : (s : List ℕ) (m : List Bool) (body key n : ℕ) → given s m (With body key) n ≡ true → (n ≡ body) × (built s m key ≡ true)
-given-with s m body key n = says-and (eqb n body) (built s m key) (says-eqb n body) (says-true _) .0
+-- its numbers are those of terms
+abbrev OfTerms : List ℕ → Opening → Type 0
+OfTerms s (Freely x y) = (x < terms s) × (y < terms s)
+OfTerms s (With body key) = (body < terms s) × (key < terms s)
+OfTerms s Shut = Unit {0}
 
-module _ (s : List ℕ) {o : Opening} (l : OfTerms s o) where
-  pub body-listed : {body key : ℕ} → o ≡ With body key → body < terms s
-  body-listed e = (rw e at l) .0
+module _ {s : List ℕ} {t : ℕ} (v : TableRead s) (l : t < terms s) where
+  record Means (r : Rec) (o : Opening) : Type 0 where
+    listed : OfTerms s o
+    is : (m : List Bool) (n : ℕ) → gives s m r n ≡ given s m o n
 
-  pub key-listed : {body key : ℕ} → o ≡ With body key → key < terms s
-  key-listed e = (rw e at l) .1
+  asymmetric-means : (x k : ℕ) → recordAt s t ≡ branch (make (encryption asymmetric)) x k → (b : Bool) → eqb (inverseOf s k) 255 ≡ b →
+      Means (branch (make (encryption asymmetric)) x k) (cond b Shut (With x (inverseOf s k)))
+  asymmetric-means x k r true g =
+      record { listed = tt; is = λ m n. and-right (eqb n x) _ (no-key v (part-below (facts v .table) t l r .1) (eqb-true _ 255 g) m) }
+  asymmetric-means x k r false g =
+      let (a, b) = part-below (facts v .table) t l r in
+      let (c, e) = the-key v b (eqb-false _ 255 g) in
+      record { listed = (a, c); is = λ m n. ap (λ z. eqb n x && z) (e m) }
 
--- ---- nothing new to give
-module _ {s known state : List ℕ} {o : Opening} where
-  pub settled-not : Settled s known state o false
-  settled-not = record { marked = λ b. absurd (false≢true b) }
+  means : (r : Rec) → recordAt s t ≡ r → Means r (openingIn s r)
+  means (leaf κ z) r = record { listed = tt; is = λ m n. refl }
+  means (branch (make pair) x y) r = record { listed = part-below (facts v .table) t l r; is = λ m n. refl }
+  means (branch (make hash) x y) r = record { listed = tt; is = λ m n. refl }
+  means (branch (make (encryption symmetric)) x k) r = record { listed = part-below (facts v .table) t l r; is = λ m n. refl }
+  means (branch (make (encryption asymmetric)) x k) r = asymmetric-means x k r (eqb (inverseOf s k) 255) refl
+  means (branch (part i) x y) r = record { listed = tt; is = λ m n. refl }
+  means (branch (decrypt c) x y) r = record { listed = tt; is = λ m n. refl }
 
-  pub settled-shut : o ≡ Shut → Settled s known state o true
-  settled-shut e = record { marked = λ b n g. absurd (false≢true (rw e at g)) }
+  pub opening-gives : (m : List Bool) (n : ℕ) → gives s m (recordAt s t) n ≡ given s m (openingOf s t) n
+  opening-gives = means (recordAt s t) refl .is
 
-  pub settled-parts : {x y j k : ℕ} → o ≡ Freely x y → j ≡ x → getD state j 0 ≡ 1 → k ≡ y → Settled s known state o (eqb (getD state k 0) 1)
-  settled-parts {x} {y} {j} {k} e f p g = record {
-    marked = λ b n h. ⊎-elim (λ c. ap (λ z. getD state z 0) (c ∙ sym f) ∙ p) (λ c. ap (λ z. getD state z 0) (c ∙ sym g) ∙ says-eqb _ 1 .0 b)
-        (given-freely s (marksOf known) x y n (rw e at h));
-  }
+  pub freely-listed : {x y : ℕ} → openingOf s t ≡ Freely x y → (x < terms s) × (y < terms s)
+  freely-listed e = rw e at (means (recordAt s t) refl .listed)
 
-  module _ {body key : ℕ} (e : o ≡ With body key) where
-    pub settled-body : {j : ℕ} → j ≡ body → getD state j 0 ≡ 1 → Settled s known state o true
-    settled-body f p = record { marked = λ b n h. ap (λ z. getD state z 0) (given-with s (marksOf known) body key n (rw e at h) .0 ∙ sym f) ∙ p }
-
-    pub settled-missing : {b : Bool} → Unbuilt s known key b → Settled s known state o b
-    settled-missing u = record { marked = λ b n h. absurd (true≢false (sym (given-with s (marksOf known) body key n (rw e at h) .1) ∙ u .no b)) }
+  pub with-listed : {body key : ℕ} → openingOf s t ≡ With body key → (body < terms s) × (key < terms s)
+  with-listed e = rw e at (means (recordAt s t) refl .listed)

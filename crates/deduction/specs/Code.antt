@@ -1,15 +1,18 @@
 -- What the code's arrays mean.
-use mathlib.Core.{Path._≡_, Logic._⊎_, Bool.Bool, Bool.true, Bool.false, Bool._&&_, Bool._||_, Bool.cond, List.List, List.[], List._∷_, List.map, Option.Option, Option.none, Option.some}
-use Prim.Native.Nat.{ℕ, suc, _≤_, _<_}
+use mathlib.Core.{Path._≡_, Logic._⊎_, Bool.Bool, Bool.true, Bool.false, Bool._&&_, Bool.cond, List.List, List.[], List._∷_, List.map, Option.Option, Option.none, Option.some}
+use Prim.Native.Nat.{ℕ, suc, _+_, _≤_, _<_}
 use lib.{Dec.eqb, ListN.length, ListN.getD, ListN.set}
 use Rattle.base.specs.Words.{first}
-use Rattle.term.specs.{Step.Deducible, Term.Rec, Term.leaf, Term.branch}
-use Rattle.submission.specs.{Record.terms, Record.recordAt, Record.term, Computed.areInverse}
+use Rattle.term.specs.{Step.Deducible, Term.symmetric, Term.asymmetric, Term.pair, Term.hash, Term.encryption, Term.make, Term.part, Term.decrypt, Term.Rec, Term.leaf, Term.branch}
+use Rattle.submission.specs.{Record.terms, Record.recordAt, Record.term, Record.kindAt, Record.yAt, Computed.areInverse}
 use Rattle.deduction.specs.declared.Parts.{Parts}
 use Rattle.deduction.specs.declared.Parts.the-variants.{Nothing, Both}
 use Rattle.deduction.specs.declared.Opening.{Opening}
 use Rattle.deduction.specs.declared.Opening.the-variants.{Freely, With, Shut}
-use Rattle.deduction.specs.declared.Round.{Round}
+use Rattle.deduction.specs.declared.Role.{Role}
+use Rattle.deduction.specs.declared.Role.the-variants.{Key, First, Second}
+use Rattle.deduction.specs.declared.Clause.{Clause}
+use Rattle.deduction.specs.declared.Clause.the-variants.{Absent, From}
 use Rattle.deduction.specs.Computed.{at, built, gives, isDeducible, Marked}
 
 -- a term is marked by 1
@@ -24,6 +27,10 @@ pub record SameMarks (s : List ℕ) (m m′ : List Bool) : Type 0 where
 abbrev pub orNone : Option ℕ → ℕ
 orNone none = 255
 orNone (some n) = n
+
+-- the number of the inverse of term k, or 255 where none is listed
+abbrev pub inverseOf : List ℕ → ℕ → ℕ
+inverseOf s k = orNone (first (areInverse s k) (terms s))
 
 -- for each of the first i terms the number of its inverse, or 255 where none is listed
 pub record Inverses (s : List ℕ) (i : ℕ) (l : List ℕ) : Type 0 where
@@ -58,63 +65,140 @@ pub record Unbuilt (s known : List ℕ) (k : ℕ) (b : Bool) : Type 0 where
   pub no : b ≡ true → built s (marksOf known) k ≡ false
 
 -- ---- taking a record apart
--- taking apart what opens so gives the term n, over the marks m
-abbrev pub given : List ℕ → List Bool → Opening → ℕ → Bool
-given s m (Freely x y) n = eqb n x || eqb n y
-given s m (With body key) n = eqb n body && built s m key
-given s m Shut n = false
-
--- its numbers are those of terms
-abbrev pub OfTerms : List ℕ → Opening → Type 0
-OfTerms s (Freely x y) = (x < terms s) × (y < terms s)
-OfTerms s (With body key) = (body < terms s) × (key < terms s)
-OfTerms s Shut = Unit {0}
-
--- record t opens so: over any marks it gives what the definition says
-pub record OpensAs (s : List ℕ) (t : ℕ) (o : Opening) : Type 0 where
-  pub listed : OfTerms s o
-  pub is : (m : List Bool) (n : ℕ) → gives s m (recordAt s t) n ≡ given s m o n
-
 -- an encryption of `body` is opened by this key, 255 for none
 abbrev pub opensBy : ℕ → ℕ → Opening
 opensBy body key = cond (eqb key 255) Shut (With body key)
 
--- where b is true, all that a record gives that opens so is marked by now: `known` are the marks that the round began with
-pub record Settled (s known state : List ℕ) (o : Opening) (b : Bool) : Type 0 where
-  pub marked : b ≡ true → (n : ℕ) → given s (marksOf known) o n ≡ true → getD state n 0 ≡ 1
+-- what opens a record
+abbrev pub openingIn : List ℕ → Rec → Opening
+openingIn s (leaf κ z) = Shut
+openingIn s (branch (make pair) x y) = Freely x y
+openingIn s (branch (make hash) x y) = Shut
+openingIn s (branch (make (encryption symmetric)) x k) = With x k
+openingIn s (branch (make (encryption asymmetric)) x k) = opensBy x (inverseOf s k)
+openingIn s (branch (part i) x y) = Shut
+openingIn s (branch (decrypt c) x y) = Shut
 
--- ---- saturation
+abbrev pub openingOf : List ℕ → ℕ → Opening
+openingOf s t = openingIn s (recordAt s t)
+
+-- ---- what waits for a term
+-- record t and the key that opens it give its body
+abbrev pub keyClause : ℕ → Opening → Clause
+keyClause t (Freely x y) = Absent
+keyClause t (With body key) = From key t body
+keyClause t Shut = Absent
+
+-- the parts of record t give its term; it waits for the first or for the second
+abbrev pub partsClause : ℕ → Bool → Parts → Clause
+partsClause t first Nothing = Absent
+partsClause t true (Both x y) = From x y t
+partsClause t false (Both x y) = From y x t
+
+abbrev pub clauseOf : List ℕ → Role → ℕ → Clause
+clauseOf s Key t = keyClause t (openingOf s t)
+clauseOf s First t = partsClause t true (partsOf (recordAt s t))
+clauseOf s Second t = partsClause t false (partsOf (recordAt s t))
+
+-- the term that a clause waits for, 256 for none
+abbrev pub awaited : Clause → ℕ
+awaited Absent = 256
+awaited (From term other result) = term
+
+unfoldable pub linked : List ℕ → Role → ℕ → ℕ
+linked s role t = awaited (clauseOf s role t)
+
+-- record i, with its clause, put before the last one that waits for the same term
+abbrev pub Links : List ℕ → List ℕ → ℕ → Clause → List ℕ → List ℕ → Type 0
+Links before latest i Absent before′ latest′ = (before′ ≡ before) × (latest′ ≡ latest)
+Links before latest i (From term other result) before′ latest′ = (before′ ≡ set before i (getD latest term 0)) × (latest′ ≡ set latest term i)
+
+-- record t is an encryption under a hash
+unfoldable pub hasHashKey : List ℕ → ℕ → Bool
+hasHashKey s t = eqb (kindAt s t) 5 && eqb (kindAt s (yAt s t)) 7
+
+-- ---- marks, and the order in which terms were marked
+-- how many are not marked
+unfoldable pub unmarked : List ℕ → ℕ
+unmarked [] = 0
+unmarked (v ∷ l) = cond (eqb v 1) (unmarked l) (suc (unmarked l))
+
+-- the order has room for every term that is not marked
+pub record Room (marks order : List ℕ) (end : ℕ) : Type 0 where
+  pub long : length marks ≡ 256
+  pub orderLong : length order ≡ 256
+  pub enough : end + unmarked marks ≤ 256
+
+-- term t is marked, and the last of the order, if it was not marked
+abbrev pub Pushed : List ℕ → List ℕ → ℕ → ℕ → List ℕ → List ℕ → ℕ → Type 0
+Pushed marks order end t marks′ order′ r =
+    ((getD marks t 0 ≡ 1) × (marks′ ≡ marks) × (order′ ≡ order) × (r ≡ end))
+    ⊎ ((getD marks t 0 ≡ 1 → ⊥) × (marks′ ≡ set marks t 1) × (order′ ≡ set order end t) × (r ≡ end + 1))
+
+abbrev pub PushedWith : List ℕ → List ℕ → ℕ → ℕ → ℕ → List ℕ → List ℕ → ℕ → Type 0
+PushedWith marks order end t other marks′ order′ r =
+    ((getD marks other 0 ≡ 1) × Pushed marks order end t marks′ order′ r)
+    ⊎ ((getD marks other 0 ≡ 1 → ⊥) × (marks′ ≡ marks) × (order′ ≡ order) × (r ≡ end))
+
+-- term n is one of the first h of the order
+abbrev pub Among : List ℕ → ℕ → ℕ → Type 0
+Among order h n = (k : ℕ) × (k < h) × (getD order k 0 ≡ n)
+
+-- the terms that are marked are the first `end` of the order
+pub record Queue (s marks order : List ℕ) (end : ℕ) : Type 0 where
+  pub room : Room marks order end
+  pub listed : (n : ℕ) → n < terms s → getD marks n 0 ≡ 1 → Among order end n
+  pub terms : (k : ℕ) → k < end → getD order k 0 < terms s
+  pub marked : (k : ℕ) → k < end → getD marks (getD order k 0) 0 ≡ 1
+
 -- marks that hold those of `start` and are deducible from them
 pub record SoundMarks (s start l : List ℕ) : Type 0 where
   pub long : length l ≡ 256
   pub holds : (n : ℕ) → n < terms s → getD start n 0 ≡ 1 → getD l n 0 ≡ 1
   pub reached : (n : ℕ) → n < terms s → getD l n 0 ≡ 1 → Deducible (Marked s (marksOf start)) (term s n)
 
+-- more terms are marked, all deducible from those before
+pub record Grown (s marks order : List ℕ) (end : ℕ) (marks′ order′ : List ℕ) (end′ : ℕ) : Type 0 where
+  pub queue : Queue s marks′ order′ end′
+  pub sound : SoundMarks s marks marks′
+  pub later : end ≤ end′
+  pub same : (k : ℕ) → k < end → getD order′ k 0 ≡ getD order k 0
+
+-- ---- clauses that fire
+-- the term that record t waits for is marked
+pub record Ready (s : List ℕ) (role : Role) (marks : List ℕ) (t : ℕ) : Type 0 where
+  pub is : (u x y : ℕ) → clauseOf s role t ≡ From u x y → getD marks u 0 ≡ 1
+
+pub record FiredOne (s : List ℕ) (role : Role) (t : ℕ) (marks order : List ℕ) (end : ℕ) (marks′ order′ : List ℕ) (end′ : ℕ) : Type 0 where
+  pub grown : Grown s marks order end marks′ order′ end′
+  pub gave : (u x y : ℕ) → clauseOf s role t ≡ From u x y → getD marks x 0 ≡ 1 → getD marks′ y 0 ≡ 1
+
+-- what waits for u has fired
+pub record Fired (s : List ℕ) (role : Role) (u : ℕ) (marks order : List ℕ) (end : ℕ) (marks′ order′ : List ℕ) (end′ : ℕ) : Type 0 where
+  pub grown : Grown s marks order end marks′ order′ end′
+  pub gave : (t x y : ℕ) → t < terms s → clauseOf s role t ≡ From u x y → getD marks x 0 ≡ 1 → getD marks′ y 0 ≡ 1
+
+pub record TakenApart (s : List ℕ) (u : ℕ) (marks order : List ℕ) (end : ℕ) (marks′ order′ : List ℕ) (end′ : ℕ) : Type 0 where
+  pub grown : Grown s marks order end marks′ order′ end′
+  pub freely : (x y : ℕ) → openingOf s u ≡ Freely x y → (getD marks′ x 0 ≡ 1) × (getD marks′ y 0 ≡ 1)
+  pub opened : (body key : ℕ) → openingOf s u ≡ With body key → getD marks key 0 ≡ 1 → getD marks′ body 0 ≡ 1
+
+-- the first h terms of the order are taken apart, as far as their keys are among them
+pub record OpenTo (s marks order : List ℕ) (h : ℕ) : Type 0 where
+  pub freely : (t x y : ℕ) → Among order h t → openingOf s t ≡ Freely x y → (getD marks x 0 ≡ 1) × (getD marks y 0 ≡ 1)
+  pub opened : (t body key : ℕ) → Among order h t → Among order h key → openingOf s t ≡ With body key → getD marks body 0 ≡ 1
+
+-- what is built of u and of marked terms is marked, and all is taken apart
+pub record Composed (s : List ℕ) (u : ℕ) (marks order : List ℕ) (end : ℕ) (marks′ order′ : List ℕ) (end′ : ℕ) : Type 0 where
+  pub grown : Grown s marks order end marks′ order′ end′
+  pub apart : OpenTo s marks′ order′ end′
+  pub first : (t y : ℕ) → t < terms s → partsOf (recordAt s t) ≡ Both u y → getD marks y 0 ≡ 1 → getD marks′ t 0 ≡ 1
+  pub second : (t x : ℕ) → t < terms s → partsOf (recordAt s t) ≡ Both x u → getD marks x 0 ≡ 1 → getD marks′ t 0 ≡ 1
+
+-- what is built of the first h terms of the order is marked
+pub record ComposedTo (s marks order : List ℕ) (h : ℕ) : Type 0 where
+  pub is : (t x y : ℕ) → t < terms s → partsOf (recordAt s t) ≡ Both x y → Among order h x → Among order h y → getD marks t 0 ≡ 1
+
 -- the build test over these marks answers for each term as the definition does that starts from `start`
 pub record Exact (s start l : List ℕ) : Type 0 where
   pub is : (n : ℕ) → n < terms s → built s (marksOf l) n ≡ isDeducible s (marksOf start) n
-
--- how many are not marked
-unfoldable pub unmarked : List ℕ → ℕ
-unmarked [] = 0
-unmarked (v ∷ l) = cond (eqb v 1) (unmarked l) (suc (unmarked l))
-
--- the round r, with the term t marked
-unfoldable pub withMark : Round → ℕ → Round
-withMark r t = cond (eqb (getD (r .state) t 0) 1) r (record { state = set (r .state) t 1; memo = r .memo; changed = true })
-
--- A round that began with the marks `known` and has treated the terms from i on: each gave what it gives, and nothing has changed
--- unless the round says so.
-pub record Swept (s known : List ℕ) (i : ℕ) (r : Round) : Type 0 where
-  pub sound : SoundMarks s known (r .state)
-  pub memo : Memo s known (r .memo)
-  pub same : r .changed ≡ false → r .state ≡ known
-  pub fewer : r .changed ≡ true → unmarked (r .state) < unmarked known
-  pub closed : r .changed ≡ false → (k n : ℕ) → i ≤ k → k < terms s → getD known k 0 ≡ 1 →
-      gives s (marksOf known) (recordAt s k) n ≡ true → getD known n 0 ≡ 1
-
--- the round q after r, where what a record that opens so gives, if it is deducible, was marked
-pub record TakenApart (s known : List ℕ) (o : Opening) (r q : Round) : Type 0 where
-  pub kept : (i : ℕ) → Swept s known i r →
-      ((n : ℕ) → given s (marksOf known) o n ≡ true → Deducible (Marked s (marksOf known)) (term s n)) → Swept s known i q
-  pub gave : length (r .state) ≡ 256 → (n : ℕ) → given s (marksOf known) o n ≡ true → getD (q .state) n 0 ≡ 1
