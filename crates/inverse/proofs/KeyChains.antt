@@ -1,7 +1,7 @@
 -- The chains of keys, and the walk along one of them for the inverse of a key.
 use mathlib.Core.Path.{_≡_, refl, sym, _∙_}
 use mathlib.Core.Logic.{inl, inr, ⊎-elim, by-cases}
-use mathlib.Core.Bool.{Bool, true, false, _&&_, not, cond, and-true, and-false, true≢false, false≢true}
+use mathlib.Core.Bool.{Bool, true, false, _&&_, not, cond, and-true, and-false, false≢true}
 use mathlib.Core.List.{List}
 use Prim.Native.Nat.{ℕ, _+_, _%_, _<_}
 use native.Mathlib.Nat.{le-refl}
@@ -12,7 +12,7 @@ use lib.ListN.{getD, set}
 use borrow.Author.Tests.{eq-eqb, ne-eqb}
 use Rattle.base.specs.{Words.Bytes, Code.Chained, Code.Chaining}
 use Rattle.base.proofs.Chains.{Walk, chaining-apart, chaining-more, walk-start, walk-end, walk-below, walk-chain, walk-more, walk-less}
-use Rattle.base.proofs.Says.{says-and, says-or, says-eqb, says-true, denies}
+use Rattle.base.proofs.Says.{says-and, says-or, says-eqb, says-true, denies, not-not-false}
 use Rattle.term.specs.{Term.asymmetric, Term.isKeyFor, Number.shapeOf, Computed.inverseKinds}
 use Rattle.term.proofs.Kind.{no-inverse}
 use Rattle.submission.specs.declared.Term.{Term}
@@ -28,6 +28,7 @@ module _ {s : List ℕ} {j : ℕ} {u : Term} (t : Term) (q : IsTerm s j u) where
   kinds-told e f = f ∙ rw (← (q .x), eq-eqb _ _ e, ← (q .kind))
 
 -- ---- which keys are chained
+-- kinds that are each other's inverse are those of keys
 is-key-kinds : (k j : ℕ) → inverseKinds k j ≡ true → (isKeyFor asymmetric (shapeOf k) ≡ true) × (isKeyFor asymmetric (shapeOf j) ≡ true)
 unfolding shapeOf
 is-key-kinds k j e =
@@ -49,10 +50,6 @@ chain-y s n l = go (isKeyFor asymmetric (shapeOf (kindAt s n))) l
     go true m = refl
     go false m = absurd (omega arith)
 
-not-false : (b : Bool) → not b ≡ false → b ≡ true
-not-false true e = refl
-not-false false e = absurd (true≢false e)
-
 not-true : (b : Bool) → not b ≡ true → b ≡ false
 not-true true e = absurd (false≢true e)
 not-true false e = refl
@@ -63,7 +60,7 @@ module _ {s : List ℕ} {k : ℕ} {t : Term} (p : IsTerm s k t) {b : Bool} (e : 
   key-is r h = rw (← (p .kind), ← e) h
 
   chained-by : not b ≡ false → keyChain s k ≡ t .y
-  chained-by h = rw (key-is true (not-false b h), p .y)
+  chained-by h = rw (key-is true (not-not-false b .0 h), p .y)
 
   -- one term more
   pub no-key-chained : {before latest : List ℕ} → not b ≡ true → Chaining (keyChain s) k before latest → Chaining (keyChain s) (k + 1) before latest
@@ -85,7 +82,7 @@ Missed s k j = Walk (keyChain s) (λ i. areInverse s k i ≡ false) k (keyChain 
 pub missed-none : (s : List ℕ) {before : List ℕ} (k : ℕ) {w : ℕ} {t : Term} {b : Bool} → IsTerm s k t → b ≡ isKeyFor asymmetric (shapeOf (t .kind)) → not b ≡ false → Bytes s →
     Chained (keyChain s) (k + 1) before → w ≡ k → Missed s k (getD before w 0)
 missed-none s k p e h bytes q g =
-    let l : keyChain s k < 256 = rw (key-is p e true (not-false _ h)) (bytes _) in
+    let l : keyChain s k < 256 = rw (key-is p e true (not-not-false _ .0 h)) (bytes _) in
     walk-start l (rw g (q .is k (omega arith) l))
 
 module _ (s : List ℕ) (k : ℕ) {j : ℕ} (p : Missed s k j) where
