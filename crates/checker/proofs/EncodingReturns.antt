@@ -7,9 +7,10 @@ use Rattle.base.specs.declared.Answer.the-variants as given
 use Rattle.base.specs.Answer.{Answer, answerOf}
 use Rattle.submission.specs.Body.{Bodies}
 use Rattle.form.specs.Calls.{FormWritten}
+use Rattle.inverse.specs.Calls.{InversesWritten}
 use Rattle.conditions.specs.declared.Verdict.{Verdict}
 use Rattle.conditions.specs.Calls.{verdictAnswer, Checked}
-use Rattle.checker.specs.Calls.{encoded, Encoded, EncodedForm}
+use Rattle.checker.specs.Calls.{encoded, Encoded, EncodedForm, EncodedInverses}
 
 pub encoded-done : {x : AnswerGiven} {n : ℕ} → x ≡ given.Done n → n ≡ encoded (answerOf x)
 encoded-done e = rw e
@@ -26,3 +27,6 @@ written-as s v h e g = record { answer = g ∙ ap encoded (e ∙ h .answer); byt
 
 pub form-as : (b : Bodies) {page page′ : List ℕ} (x : AnswerGiven) {r : ℕ} → FormWritten b page x page′ → r ≡ encoded (answerOf x) → EncodedForm b page r page′
 form-as b x h g = record { answer = g ∙ ap encoded (h .answer); bytes = h .bytes }
+
+pub inverses-as : (s : List ℕ) {page page′ : List ℕ} (x : AnswerGiven) {r : ℕ} → InversesWritten s page x page′ → r ≡ encoded (answerOf x) → EncodedInverses s page r page′
+inverses-as s x h g = record { answer = g ∙ ap encoded (h .answer); bytes = h .bytes }

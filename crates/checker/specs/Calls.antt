@@ -2,6 +2,7 @@
 use Rattle.base.specs.{Words._≡_, Words.List, Words.ℕ, Words._+_, Words._*_, Words._≤_, Words.length, Words.take, Words.replicate, Answer.Answer, Answer.done, Answer.refused, Answer.Writes, Answer.Puts, Answer.pageAfter}
 use Rattle.submission.specs.{Record.entries, Body.Bodies, Body.submissionOf}
 use Rattle.form.specs.Computed.{writeAnswer}
+use Rattle.inverse.specs.Computed.{inversesOf, inversesAnswer}
 use Rattle.text.specs.Text.{answerText}
 use Rattle.program.specs.Program.{bytesOf}
 use Rattle.conditions.specs.{Calls.program, Computed.checkAnswer}
@@ -18,6 +19,10 @@ Encoded s page r page′ = Writes (λ a. r ≡ encoded a) (checkAnswer s (length
 -- `checker_write`: the number r is the answer, and the page is that of writing
 abbrev pub EncodedForm : Bodies → List ℕ → ℕ → List ℕ → Type 0
 EncodedForm b page r page′ = Writes (λ a. r ≡ encoded a) (writeAnswer b (length page)) (submissionOf b) page page′
+
+-- `checker_inverses`: the number r is the answer, and the page is that of the inverses
+abbrev pub EncodedInverses : List ℕ → List ℕ → ℕ → List ℕ → Type 0
+EncodedInverses s page r page′ = Writes (λ a. r ≡ encoded a) (inversesAnswer s (length page)) (inversesOf s) page page′
 
 -- what the program `verdict` prints of a submission, "with a page of 388 bytes": document 01, after 'Marked examples'
 unfoldable pub verdictText : List ℕ → List ℕ

@@ -5,7 +5,7 @@ ghost use Rattle.base.specs.Answer.{answerOf};
 ghost use Rattle.submission.specs.Body.{bodies};
 ghost use Rattle.deduction.specs.Computed.{deducibleAnswer};
 ghost use Rattle.machine.specs.Computed.{runAnswer};
-ghost use Rattle.checker.specs.Calls.{encoded, Encoded, EncodedForm};
+ghost use Rattle.checker.specs.Calls.{encoded, Encoded, EncodedForm, EncodedInverses};
 
 // An answer as one number.
 fn encode(answer: Answer) -> u32
@@ -50,4 +50,11 @@ pub extern "C" fn checker_write(
     ensures { λ r. ⌜ EncodedForm (bodies (now (terms .entry)) (now (knowledge .entry)) (now (derivation .entry)) (now (claim .entry))) (now (page .entry)) r (now (page .exit)) ⌝ }
 {
     encode(form::write(terms, knowledge, derivation, claim, page))
+}
+
+#[no_mangle]
+pub extern "C" fn checker_inverses(sub: &[u8], page: &mut [u8]) -> u32
+    ensures { λ r. ⌜ EncodedInverses (now (sub .entry)) (now (page .entry)) r (now (page .exit)) ⌝ }
+{
+    encode(inverse::inverses(sub, page))
 }

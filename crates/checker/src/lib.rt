@@ -1,4 +1,4 @@
-// The public calls together: `check`, `deducible`, `run` and `write`, the text of a verdict, and the calls for C.
+// The public calls together: `check`, `deducible`, `run`, `write` and `inverses`, the text of a verdict, and the calls for C.
 // Promises: every call is total, for all bytes, and its answer and the bytes that it writes are what the definitions of specs/ give.
 mod calls;
 
@@ -6,6 +6,7 @@ use conditions::Verdict;
 pub use conditions::check;
 pub use deduction::deducible;
 pub use form::write;
+pub use inverse::inverses;
 pub use machine::run;
 ghost use lib.ListN.{replicate};
 ghost use Rattle.conditions.specs.Calls.{Checked};

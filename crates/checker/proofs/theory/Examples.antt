@@ -1,5 +1,5 @@
 -- Document 01's marked examples M1 to M10, WPA2, and our own for each number in the table of verdicts, by one table-wide fact, and what it says
--- of each. The text is that of `verdict`, with its page of 388 bytes. A second table has the answers of deducible and run.
+-- of each. The text is that of `verdict`, with its page of 388 bytes. A second table has the answers of deducible, run and inverses.
 use mathlib.Core.Path.{_≡_, refl}
 use mathlib.Core.Logic.{Dec·and}
 use mathlib.Core.List.{List, [], _∷_, _++_, map}
@@ -19,6 +19,7 @@ use Rattle.submission.specs.{Record.recordAt, Record.term, Record.guessed, Comp
 use Rattle.submission.specs.Check.{wayOf}
 use Rattle.base.specs.Computed.{any}
 use Rattle.form.proofs.theory.Examples.{m1-bytes}
+use Rattle.inverse.specs.Computed.{inversesOf, inversesAnswer}
 use Rattle.derivation.specs.Step.{registerTerm}
 use Rattle.derivation.specs.{Computed.badStep, Computed.unfounded, Computed.checkSteps}
 use Rattle.deduction.specs.Computed.{builtWithin, round, rounds, entryMarks, isDeducible, deducibleAnswer}
@@ -353,10 +354,12 @@ pub example-right : (k : ℕ) → k < length table → got (getD table k m1) ≡
 example-right k l = map-at got want table table-right m1 k l
 
 -- ---- the other calls
--- deducible of a submission and a term number, or run of a submission, a name and a program; last is the answer wanted
+-- deducible of a submission and a term number, run of a submission, a name and a program, or inverses of a submission with a page of some bytes;
+-- last is the answer wanted
 pub data Call : Type 0 where
   deducible : List ℕ → ℕ → Answer → Call
   run : List ℕ → ℕ → List ℕ → Answer → Call
+  inverses : List ℕ → ℕ → Answer → Call
 
 abbrev pub calls : List Call
 calls =
@@ -417,21 +420,33 @@ calls =
     ∷ run (sets (sets (m8 .bytes) 18 (0x06 ∷ [])) 34 (0x00 ∷ [])) 5 (0x00 ∷ 0x3D ∷ 0x00 ∷ 0x00 ∷ []) (refused 15 0)
     ∷ run (sets (sets (m8 .bytes) 18 (0x06 ∷ [])) 34 (0x01 ∷ [])) 6 (0x00 ∷ 0x3D ∷ 0x00 ∷ 0x00 ∷ []) (refused 15 0)
     ∷ run (sets (sets (m8 .bytes) 18 (0x06 ∷ [])) 34 (0x01 ∷ [])) 2 (0x00 ∷ 0x3D ∷ 0x00 ∷ 0x00 ∷ []) (done 1)
+    -- M8 has four terms: 11, place 4, with a page of 3. "The call makes checks 1 to 4, then 11": not 5 (M10), and 4 before 11
+    ∷ inverses (m8 .bytes) 4 (done 4)
+    ∷ inverses (m8 .bytes) 3 (refused 11 4)
+    ∷ inverses (m10 .bytes) 3 (done 3)
+    ∷ inverses (sets (m1 .bytes) 26 (0x03 ∷ [])) 0 (refused 4 1)
     ∷ []
 
 abbrev pub call-got : Call → Answer
 call-got (deducible s n a) = deducibleAnswer s n
 call-got (run s name P a) = runAnswer s name P
+call-got (inverses s room a) = inversesAnswer s room
 
 abbrev pub call-want : Call → Answer
 call-want (deducible s n a) = a
 call-want (run s name P a) = a
+call-want (inverses s room a) = a
 
 -- the computed fact of these calls
 pub calls-right : map call-got calls ≡ map call-want calls
-unfolding first firstFrom any grow decoded op cancelled parted match? headOf hasOne startOf badContents shapeOf recordAt term wayOf badTerm badKnowledge goodClaim checks1to4 checks1to5 builtWithin round rounds entryMarks isDeducible relationOf instructionAt badInstruction badTest badProgram guessed initial executed registers signals signal isPart isKnownPart isStale isStaleName runAnswer deducibleAnswer Dec·and ℕ-discrete
+unfolding first firstFrom any grow decoded op cancelled parted match? headOf hasOne startOf badContents shapeOf recordAt term wayOf badTerm badKnowledge goodClaim checks1to4 checks1to5 builtWithin round rounds entryMarks isDeducible relationOf instructionAt badInstruction badTest badProgram guessed initial executed registers signals signal isPart isKnownPart isStale isStaleName runAnswer deducibleAnswer inversesAnswer Dec·and ℕ-discrete
 calls-right = refl
 
 -- what it says of each call
 pub call-right : (k : ℕ) (d : Call) → k < length calls → call-got (getD calls k d) ≡ call-want (getD calls k d)
 call-right k d l = map-at call-got call-want calls calls-right d k l
+
+-- M8's inverses: k and j are each other's, g and enc(k, g) have none
+pub m8-inverses : inversesOf (m8 .bytes) ≡ 1 ∷ 0 ∷ 255 ∷ 255 ∷ []
+unfolding inversesOf first firstFrom grow startOf areInverse
+m8-inverses = refl

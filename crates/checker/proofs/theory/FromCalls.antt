@@ -1,23 +1,25 @@
--- The demands and A1's promises, from what the calls themselves return: a verdict or an answer, and the page after the call.
+-- The demands, and the promises of A1 and A4, from what the calls themselves return: a verdict or an answer, and the page after the call.
 use mathlib.Core.Path.{_≡_, refl, sym, ap, _∙_, subst}
 use mathlib.Core.Logic.{_↔_, _⊎_, inl, inr, ⊎-elim, Iff·trans}
-use mathlib.Core.List.{List}
-use Prim.Native.Nat.{ℕ, _≤_}
+use mathlib.Core.List.{List, [], _∷_}
+use Prim.Native.Nat.{ℕ, _<_, _≤_}
 use native.Mathlib.Omega.{arith}
 use lib.ListN.{length, take, drop}
-use lib.Seq.{take-append-seam, drop-append-seam}
+use lib.Seq.{take-append-seam, drop-append-seam, getD-take}
 use Rattle.base.specs.declared.Answer.{Answer as AnswerGiven}
 use Rattle.base.specs.declared.Answer.the-variants as given
-use Rattle.base.specs.Answer.{Answer, done, refused, pageAfter, Clear, Refuses, answerOf}
-use Rattle.base.specs.Words.{Bytes}
+use Rattle.base.specs.Answer.{Answer, done, refused, pageAfter, Writes, Clear, Refuses, answerOf, row11}
+use Rattle.base.specs.Words.{byte, Bytes}
 use Rattle.base.proofs.AnswerLaws.{refused-page}
 use Rattle.base.proofs.Says.{true-or-false, denies}
-use Rattle.base.proofs.RefusalLaws.{SomeHolds, refuses-some}
-use Rattle.term.specs.{Term.Stale, Step.Deducible}
-use Rattle.submission.specs.Record.{steps, guess, nameAt, term, InKnowledge, guessed}
-use Rattle.submission.specs.{Body.Bodies, Body.bodiesOf, Body.submissionOf, Check.rows1and2}
+use Rattle.base.proofs.RefusalLaws.{SomeHolds, refuses-some, clear-split}
+use Rattle.term.specs.{Term.asymmetric, Term.Match, Term.Stale, Step.Deducible}
+use Rattle.submission.specs.Record.{terms, steps, guess, nameAt, term, InKnowledge, guessed}
+use Rattle.submission.specs.{Body.Bodies, Body.bodiesOf, Body.submissionOf, Check.rows1and2, Check.rows1to4}
 use Rattle.form.specs.{Write.writeRows, Write.ReadsAs, Computed.writeAnswer, Calls.FormWritten}
 use Rattle.form.proofs.theory.{WriteAnswer.write-exact, RoundTrip.form-promise}
+use Rattle.inverse.specs.{Inverse.inversesRows, Inverse.InverseListed, Computed.inversesOf, Calls.InversesWritten}
+use Rattle.inverse.proofs.theory.InversesAnswer.{inverses-exact, inverses-promise}
 use Rattle.deduction.specs.{Deduce.deducibleRows, Computed.deducibleAnswer}
 use Rattle.deduction.proofs.theory.DeducibleAnswer.{deducible-exact, yes-exact, no-exact}
 use Rattle.program.specs.Program.{bytesOf, programLength}
@@ -31,7 +33,7 @@ use Rattle.conditions.specs.Computed.{checkAnswer}
 use Rattle.checker.specs.Demand.{Demand1}
 
 pub demand-1 : Demand1
-demand-1 = record { check = check-exact; deducible = deducible-exact; run = run-exact; write = write-exact }
+demand-1 = record { check = check-exact; deducible = deducible-exact; run = run-exact; write = write-exact; inverses = inverses-exact }
 
 -- a verdict and an answer tell what they stand for
 same-verdict : (v u : Verdict) → verdictAnswer v ≡ verdictAnswer u → v ≡ u
@@ -52,6 +54,13 @@ returned-verdict v u c = (λ e. sym c ∙ ap verdictAnswer e, λ e. same-verdict
 
 returned : (r u : AnswerGiven) {a : Answer} → answerOf r ≡ a → (r ≡ u) ↔ (a ≡ answerOf u)
 returned r u c = (λ e. sym c ∙ ap answerOf e, λ e. same-answer r u (c ∙ e))
+
+-- where a call that writes a page was done, the bytes written are the first ones of the page, and the others are as before
+stands : {Says : Answer → Type 0} {a : Answer} {bytes page page′ : List ℕ} {n : ℕ} → Writes Says a bytes page page′ → a ≡ done n → n ≡ length bytes →
+    (take n page′ ≡ bytes) × (drop n page′ ≡ drop n page)
+stands {bytes = bytes} {page} w e l =
+    let f = w .bytes ∙ ap (λ x. pageAfter x bytes page) e in
+    (rw (f, l, take-append-seam bytes (drop (length bytes) page)), rw (f, l, drop-append-seam bytes (drop (length bytes) page)))
 
 -- where rows 1 and 2 do not hold, the row that does has a higher number
 from-3 : (s : List ℕ) (room m p : ℕ) → Clear (rows1and2 s) → SomeHolds (checkRows s room) m p → 3 ≤ m
@@ -152,10 +161,7 @@ module _ (b : Bodies) (page page′ : List ℕ) (r : AnswerGiven) (call : FormWr
     answered = returned r (given.Done n) (call .answer) .0 written
 
     pub write-stands : (take n page′ ≡ submissionOf b) × (drop n page′ ≡ drop n page)
-    write-stands =
-        let (_, e) = write-accepts n .0 written in
-        let f = call .bytes ∙ ap (λ x. pageAfter x (submissionOf b) page) answered in
-        (rw (f, e, take-append-seam (submissionOf b) (drop (length (submissionOf b)) page)), rw (f, e, drop-append-seam (submissionOf b) (drop (length (submissionOf b)) page)))
+    write-stands = stands call answered (write-accepts n .0 written .1)
 
     -- reading them gives the bodies again;
     pub write-reads : ReadsAs (take n page′) b
@@ -176,3 +182,29 @@ write-again s page page′ r bytes w l call =
     let first-two : Clear (rows1and2 s) = (w .read .0, (w .read .1 .0, tt)) in
     let done-is = returned r (given.Done (length s)) (call .answer) .1 (form-promise .notRefused s bytes first-two (length page) l) in
     (done-is, write-stands (bodiesOf s) page page′ r call (length s) done-is .0 ∙ form-promise .writtenAgain s bytes first-two)
+
+-- ---- a call of `inverses` on s and page that returned r and left page′
+module _ (s page page′ : List ℕ) (r : AnswerGiven) (bytes : Bytes s) (call : InversesWritten s page r page′) where
+  pub inverses-refuses : (n p : ℕ) → (r ≡ given.Refused n p) ↔ Refuses (inversesRows s (length page)) n p
+  inverses-refuses n p = Iff·trans (returned r (given.Refused n p) (call .answer)) (inverses-exact s bytes (length page) (refused n p))
+
+  pub inverses-leaves : (n p : ℕ) → r ≡ given.Refused n p → page′ ≡ page
+  inverses-leaves n p e = call .bytes ∙ refused-page (inversesOf s) page (returned r (given.Refused n p) (call .answer) .0 e)
+
+  pub inverses-accepts : (n : ℕ) → (r ≡ given.Done n) ↔ (Clear (inversesRows s (length page)) × (n ≡ terms s))
+  inverses-accepts n = Iff·trans (returned r (given.Done n) (call .answer)) (inverses-exact s bytes (length page) (done n))
+
+  -- A4: where it is done with n, the first n bytes are the inverses, and the others are as before;
+  module _ (n : ℕ) (written : r ≡ given.Done n) where
+    pub inverses-stands : (take n page′ ≡ inversesOf s) × (drop n page′ ≡ drop n page)
+    inverses-stands = stands call (returned r (given.Done n) (call .answer) .0 written) (inverses-accepts n .0 written .1 ∙ sym (inverses-promise .long s))
+
+    -- byte k is the number of the inverse of term k, and 255 exactly where none is listed
+    pub inverses-means : (k : ℕ) → k < n →
+        ((j : ℕ) → j < n → (byte page′ k ≡ j) ↔ Match asymmetric (term s k) (term s j)) × ((byte page′ k ≡ 255) ↔ ((j : ℕ) → InverseListed s k j → ⊥))
+    inverses-means k l =
+        let (c, e) = inverses-accepts n .0 written in
+        let (d, _) = clear-split (rows1to4 s) (row11 (terms s) (length page) ∷ []) c in
+        let l′ : k < terms s = omega arith in
+        let f : byte page′ k ≡ byte (inversesOf s) k = sym (getD-take n page′ k 0 l) ∙ ap (λ x. byte x k) (inverses-stands .0) in
+        rw f ((λ j m. inverses-promise .listed s bytes d k l′ j (omega arith)), inverses-promise .none s bytes d k l′)

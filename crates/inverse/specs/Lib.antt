@@ -1,0 +1,4 @@
+pub mod Calls
+pub mod Code
+pub mod Computed
+pub mod Inverse
