@@ -5,9 +5,9 @@ pub mod BuildMemo
 pub mod CallReturns
 pub mod Clauses
 pub mod Firing
-pub mod InverseTable
 pub mod KnowledgeMarks
 pub mod MarkArrays
 pub mod MarkOrder
+pub mod OpeningKeys
 pub mod RecordOpening
 pub mod Saturation

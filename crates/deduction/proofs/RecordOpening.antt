@@ -17,11 +17,12 @@ use Rattle.submission.specs.declared.Term.{Term}
 use Rattle.submission.specs.Code.{TableRead, IsTerm}
 use Rattle.submission.specs.Record.{terms, kindAt, xAt, yAt, nameAt, recordOf, recordAt}
 use Rattle.submission.proofs.theory.ListedTerms.{facts}
+use Rattle.inverse.specs.{Computed.inverseOf, Code.Inverses}
 use Rattle.deduction.specs.declared.Opening.{Opening}
 use Rattle.deduction.specs.declared.Opening.the-variants.{Freely, With, Shut}
 use Rattle.deduction.specs.Computed.{built, gives}
-use Rattle.deduction.specs.Code.{inverseOf, Inverses, opensBy, openingIn, openingOf}
-use Rattle.deduction.proofs.InverseTable.{no-key, the-key}
+use Rattle.deduction.specs.Code.{opensBy, openingIn, openingOf}
+use Rattle.deduction.proofs.OpeningKeys.{no-key, the-inverse, the-key}
 use Rattle.deduction.proofs.BuildMemo.{shape-record}
 
 -- ---- what each kind's record opens with
@@ -35,7 +36,7 @@ module _ {s : List ℕ} {t : ℕ} {a : Term} (v : TableRead s) (l : t < terms s)
   pub opens-symmetric : a .kind ≡ kindOf (compound (encryption symmetric)) → With (a .x) (a .y) ≡ openingOf s t
   opens-symmetric k = rw (kind-record (encryption symmetric) k, i .x, i .y)
 
-  pub opens-asymmetric : {inverses : List ℕ} {k : ℕ} {o : Opening} → Inverses s (terms s) inverses → k ≡ a .y →
+  pub opens-asymmetric : {inverses : List ℕ} {k : ℕ} {o : Opening} → Inverses s inverses → k ≡ a .y →
       a .kind ≡ kindOf (compound (encryption asymmetric)) → o ≡ opensBy (a .x) (getD inverses k 0) → o ≡ openingOf s t
   opens-asymmetric {inverses} {k} u f six g =
       let r = kind-record (encryption asymmetric) six in
@@ -87,8 +88,8 @@ module _ {s : List ℕ} {t : ℕ} (v : TableRead s) (l : t < terms s) where
       record { listed = tt; is = λ m n. and-right (eqb n x) _ (no-key v (part-below (facts v .table) t l r .1) (eqb-true _ 255 g) m) }
   asymmetric-means x k r false g =
       let (a, b) = part-below (facts v .table) t l r in
-      let (c, e) = the-key v b (eqb-false _ 255 g) in
-      record { listed = (a, c); is = λ m n. ap (λ z. eqb n x && z) (e m) }
+      let d = eqb-false _ 255 g in
+      record { listed = (a, the-inverse v b d .0); is = λ m n. ap (λ z. eqb n x && z) (the-key v b d m) }
 
   means : (r : Rec) → recordAt s t ≡ r → Means r (openingIn s r)
   means (leaf κ z) r = record { listed = tt; is = λ m n. refl }

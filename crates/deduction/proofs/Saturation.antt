@@ -3,16 +3,16 @@ use mathlib.Core.Path.{_≡_, refl, sym, ap, _∙_}
 use mathlib.Core.Logic.{⊎-elim}
 use mathlib.Core.Bool.{Bool, true, false, _&&_, _||_, not, cond, false≢true, true≢false}
 use mathlib.Core.List.{List, []}
-use mathlib.Core.Option.{Option, none, some}
+use mathlib.Core.Option.{some}
 use Prim.Native.Nat.{ℕ, zero, suc, _+_, _≤_, _<_}
 use native.Mathlib.Omega.{arith}
 use lib.Dec.{eqb}
 use lib.ListN.{length, getD, replicate, length-replicate}
 use borrow.Author.Count.{below-more}
 use borrow.Author.Tests.{eq-eqb, ne-eqb, eqb-false}
-use Rattle.base.specs.{Words.first, Computed.any}
+use Rattle.base.specs.Computed.{any}
 use Rattle.base.proofs.BoolLaws.{and-both}
-use Rattle.base.proofs.First.{Passed, first-some, first-none}
+use Rattle.base.proofs.First.{Passed}
 use Rattle.base.proofs.Says.{says-and, says-or, says-true, says-eqb, any-false, not-is-true}
 use Rattle.base.proofs.Scan.{true-any, false-any}
 use Rattle.base.proofs.Stores.{zeros}
@@ -25,15 +25,17 @@ use Rattle.term.proofs.Table.{leaf-of}
 use Rattle.submission.specs.declared.Term.{Term}
 use Rattle.submission.specs.Check.{Shaped}
 use Rattle.submission.specs.Code.{TableRead, IsTerm}
-use Rattle.submission.specs.{Record.terms, Record.kindAt, Record.xAt, Record.yAt, Record.nameAt, Record.recordAt, Record.term, Computed.areInverse}
+use Rattle.submission.specs.{Record.terms, Record.kindAt, Record.xAt, Record.yAt, Record.nameAt, Record.recordAt, Record.term}
 use Rattle.submission.proofs.theory.ListedTerms.{facts}
+use Rattle.inverse.specs.Computed.{inverseOf}
 use Rattle.deduction.specs.declared.Opening.{Opening}
 use Rattle.deduction.specs.declared.Opening.the-variants.{Freely, With, Shut}
 use Rattle.deduction.specs.Computed.{at, partsBuilt, built, gives, Marked}
-use Rattle.deduction.specs.Code.{marksOf, orNone, inverseOf, partsOf, openingOf, hasHashKey, Pushed, Queue, SoundMarks, Grown, OpenTo, ComposedTo, Exact}
+use Rattle.deduction.specs.Code.{marksOf, partsOf, openingOf, hasHashKey, Pushed, Queue, SoundMarks, Grown, OpenTo, ComposedTo, Exact}
 use Rattle.deduction.proofs.theory.{BuildTestLaws.built-eq, Exactness.built-is-deducible}
 use Rattle.deduction.proofs.BuildMemo.{shape-record}
 use Rattle.deduction.proofs.MarkArrays.{says-mark}
+use Rattle.deduction.proofs.OpeningKeys.{the-inverse}
 use Rattle.deduction.proofs.RecordOpening.{given, opening-gives, with-listed}
 use Rattle.deduction.proofs.MarkOrder.{unmarked-most, sound-trans, pushed-here, pushed-queue, pushed-keeps, pushed-only}
 
@@ -158,14 +160,11 @@ module _ {s : List ℕ} (v : TableRead s) where
       go (compound (encryption asymmetric)) e = absurd (false≢true (rw e at f))
 
   inverse-leaf : (k : ℕ) → k < terms s → (inverseOf s k ≡ 255 → ⊥) → (κ : Kind) × (n : ℕ) × (recordAt s (inverseOf s k) ≡ leaf κ n)
-  inverse-leaf k l d = go (first (areInverse s k) (terms s)) refl
-    where
-      go : (o : Option ℕ) → first (areInverse s k) (terms s) ≡ o → (κ : Kind) × (n : ℕ) × (recordAt s (inverseOf s k) ≡ leaf κ n)
-      go none g = absurd (d (ap orNone g))
-      go (some j) g =
-          let (b, a, _) = first-some _ _ j g in
-          let (κ, n, f) = key-is-atom (term s j) (match-sym asymmetric (term s k) (term s j) (facts v .inverse-iff k j l b .0 a) .0) in
-          rw g (κ, n, leaf-of (facts v .table) j b f)
+  inverse-leaf k l d =
+      let j = inverseOf s k in
+      let (b, a) = the-inverse v l d in
+      let (κ, n, f) = key-is-atom (term s j) (match-sym asymmetric (term s k) (term s j) (facts v .inverse-iff k j l b .0 a) .0) in
+      (κ, n, leaf-of (facts v .table) j b f)
 
   -- the key that opens record t
   key-leaf : (t : ℕ) {body key : ℕ} → t < terms s → hasHashKey s t ≡ false → openingOf s t ≡ With body key → (κ : Kind) × (n : ℕ) × (recordAt s key ≡ leaf κ n)

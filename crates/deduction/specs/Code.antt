@@ -1,10 +1,10 @@
 -- What the code's arrays mean.
-use mathlib.Core.{Path._≡_, Logic._⊎_, Bool.Bool, Bool.true, Bool.false, Bool._&&_, Bool.cond, List.List, List.[], List._∷_, List.map, Option.Option, Option.none, Option.some}
+use mathlib.Core.{Path._≡_, Logic._⊎_, Bool.Bool, Bool.true, Bool.false, Bool._&&_, Bool.cond, List.List, List.[], List._∷_, List.map}
 use Prim.Native.Nat.{ℕ, suc, _+_, _≤_, _<_}
 use lib.{Dec.eqb, ListN.length, ListN.getD, ListN.set}
-use Rattle.base.specs.Words.{first}
 use Rattle.term.specs.{Step.Deducible, Term.symmetric, Term.asymmetric, Term.pair, Term.hash, Term.encryption, Term.make, Term.part, Term.decrypt, Term.Rec, Term.leaf, Term.branch}
-use Rattle.submission.specs.{Record.terms, Record.recordAt, Record.term, Record.kindAt, Record.yAt, Computed.areInverse}
+use Rattle.inverse.specs.Computed.{inverseOf}
+use Rattle.submission.specs.{Record.terms, Record.recordAt, Record.term, Record.kindAt, Record.yAt}
 use Rattle.deduction.specs.declared.Parts.{Parts}
 use Rattle.deduction.specs.declared.Parts.the-variants.{Nothing, Both}
 use Rattle.deduction.specs.declared.Opening.{Opening}
@@ -22,21 +22,6 @@ marksOf l = map (λ v. eqb v 1) l
 -- the same terms are marked
 pub record SameMarks (s : List ℕ) (m m′ : List Bool) : Type 0 where
   pub same : (n : ℕ) → n < terms s → at m n ≡ at m′ n
-
--- the number found, or 255
-abbrev pub orNone : Option ℕ → ℕ
-orNone none = 255
-orNone (some n) = n
-
--- the number of the inverse of term k, or 255 where none is listed
-abbrev pub inverseOf : List ℕ → ℕ → ℕ
-inverseOf s k = orNone (first (areInverse s k) (terms s))
-
--- for each of the first i terms the number of its inverse, or 255 where none is listed
-pub record Inverses (s : List ℕ) (i : ℕ) (l : List ℕ) : Type 0 where
-  pub within : i ≤ terms s
-  pub long : length l ≡ 256
-  pub is : (k : ℕ) → k < i → getD l k 0 ≡ orNone (first (areInverse s k) (terms s))
 
 -- the parts that a record is built from
 abbrev pub partsOf : Rec → Parts

@@ -1,8 +1,10 @@
 // Deducibility over all terms, from the knowledge or from any marked terms.
 // Promises: every function is total, for all bytes, and `deducible` answers what the definition `deducibleAnswer` gives, which is yes
 // exactly when some finite list of Dolev-Yao steps reaches the term from the knowledge.
-// Cost, for T terms: the inverses are found once, by at most T looks through the table. A round treats each term once and decides each
-// at most once, since the build test keeps its answers. Every round but the last marks a term. So at most T rounds of T terms.
+// Cost, for T terms: the inverses are found first, by `inverse::find`. Each term is marked at most once and treated once when it is: its
+// record is opened, and the records that wait for it are looked at, as for the key that opens them and, where a compound term is a key, as
+// for a part to be built from. A record waits for one key and two parts, so it is looked at four times at most. The build test keeps its
+// answers, so it decides each term once. So the cost grows with T, and with nothing else.
 use base::Answer;
 use base::Stage;
 use term::kinds;
@@ -10,15 +12,14 @@ ghost use mathlib.Core.Path.{_≡_};
 ghost use mathlib.Core.Bool.{_&&_};
 ghost use Prim.Native.Nat.{_<_, _≤_};
 ghost use lib.ListN.{length, getD, replicate};
-ghost use Rattle.base.specs.Words.{first};
 ghost use Rattle.submission.specs.Record.{terms, recordAt};
-ghost use Rattle.submission.specs.Computed.{areInverse};
 ghost use Rattle.deduction.specs.Computed.{built, entryMarks, isDeducible, deducibleAnswer};
 ghost use Rattle.base.specs.Answer.{answerOf};
 ghost use Rattle.base.specs.Computed.{any};
 ghost use Rattle.base.specs.Code.{Chaining};
 ghost use Rattle.submission.specs.Code.{TableRead};
-ghost use Rattle.deduction.specs.Code.{marksOf, SameMarks, orNone, Inverses, partsOf, Memo, Decided, Unbuilt, opensBy, openingOf, keyClause, partsClause, clauseOf, hasHashKey, linked, Links, Room, Pushed, PushedWith, Queue, Ready, FiredOne, Fired, TakenApart, Grown, OpenTo, Composed, ComposedTo, SoundMarks, Exact};
+ghost use Rattle.inverse.specs.Code.{Inverses};
+ghost use Rattle.deduction.specs.Code.{marksOf, SameMarks, partsOf, Memo, Decided, Unbuilt, opensBy, openingOf, keyClause, partsClause, clauseOf, hasHashKey, linked, Links, Room, Pushed, PushedWith, Queue, Ready, FiredOne, Fired, TakenApart, Grown, OpenTo, Composed, ComposedTo, SoundMarks, Exact};
 
 // A number for each term number. Of marks, 1 marks the term; those of numbers that are not below T count for nothing.
 pub struct Marks {
@@ -34,37 +35,6 @@ pub fn knowledge_marks(s: &[u8]) -> Marks
     for i in 0..n {
         let t = base::wide(submission::entry_at(s, i));
         m.state[t] = 1;
-    }
-    m
-}
-
-// The number of the inverse of term k, or 255 where none is listed.
-fn inverse_of(s: &[u8], k: u8) -> u8
-    ensures { λ r. ⌜ r ≡ orNone (first (areInverse (now (s .entry)) k) (terms (now (s .entry)))) ⌝ }
-{
-    let key = submission::term_at(s, k);
-    if !kinds::is_key(key.kind) {
-        return 255;
-    }
-    let n = submission::terms(s);
-    for j in 0..n {
-        if submission::are_inverse(s, k, j) {
-            return j;
-        }
-    }
-    255
-}
-
-// The inverse of each term.
-fn inverses(s: &[u8]) -> Marks
-    ensures { λ r. ⌜ Inverses (now (s .entry)) (terms (now (s .entry))) (r .state) ⌝ }
-{
-    let mut m = Marks {
-        state: [255u8; 256],
-    };
-    let n = submission::terms(s);
-    for k in 0..n {
-        m.state[base::wide(k)] = inverse_of(s, k);
     }
     m
 }
@@ -158,7 +128,7 @@ fn with_key(body: u8, key: u8) -> Opening
 fn opening_of(s: &[u8], inverses: &[u8; 256], t: u8) -> Opening
     requires { ⌜ TableRead (now s) ⌝ }
     requires { ⌜ t < terms (now s) ⌝ }
-    requires { ⌜ Inverses (now s) (terms (now s)) (now inverses) ⌝ }
+    requires { ⌜ Inverses (now s) (now inverses) ⌝ }
     ensures { λ o. ⌜ o ≡ openingOf (now (s .entry)) t ⌝ }
 {
     let term = submission::term_at(s, t);
@@ -194,7 +164,7 @@ pub enum Clause {
 fn clause_of_key(s: &[u8], inverses: &[u8; 256], t: u8) -> Clause
     requires { ⌜ TableRead (now s) ⌝ }
     requires { ⌜ t < terms (now s) ⌝ }
-    requires { ⌜ Inverses (now s) (terms (now s)) (now inverses) ⌝ }
+    requires { ⌜ Inverses (now s) (now inverses) ⌝ }
     ensures { λ r. ⌜ r ≡ keyClause t (openingOf (now (s .entry)) t) ⌝ }
 {
     let o = opening_of(s, inverses, t);
@@ -236,7 +206,7 @@ fn clause_of_parts(s: &[u8], t: u8, first: bool) -> Clause
 fn clause_of(s: &[u8], inverses: &[u8; 256], role: Role, t: u8) -> Clause
     requires { ⌜ TableRead (now s) ⌝ }
     requires { ⌜ t < terms (now s) ⌝ }
-    requires { ⌜ Inverses (now s) (terms (now s)) (now inverses) ⌝ }
+    requires { ⌜ Inverses (now s) (now inverses) ⌝ }
     ensures { λ r. ⌜ r ≡ clauseOf (now (s .entry)) role t ⌝ }
 {
     match role {
@@ -275,7 +245,7 @@ fn chain(
     latest: &mut [u8; 256],
 )
     requires { ⌜ TableRead (now s) ⌝ }
-    requires { ⌜ Inverses (now s) (terms (now s)) (now inverses) ⌝ }
+    requires { ⌜ Inverses (now s) (now inverses) ⌝ }
     requires { ⌜ now before ≡ replicate 256 255 ⌝ }
     requires { ⌜ now latest ≡ replicate 256 255 ⌝ }
     ensures { λ _. ⌜ Chaining (linked (now (s .entry)) role) (terms (now (s .entry))) (now (before .exit)) (now (latest .exit)) ⌝ }
@@ -332,7 +302,7 @@ fn fire_one(
 ) -> usize
     requires { ⌜ TableRead (now s) ⌝ }
     requires { ⌜ t < terms (now s) ⌝ }
-    requires { ⌜ Inverses (now s) (terms (now s)) (now inverses) ⌝ }
+    requires { ⌜ Inverses (now s) (now inverses) ⌝ }
     requires { ⌜ Queue (now s) (now marks) (now order) end ⌝ }
     requires { ⌜ Ready (now s) role (now marks) t ⌝ }
     ensures { λ r. ⌜ FiredOne (now (s .entry)) role t (now (marks .entry)) (now (order .entry)) end (now (marks .exit)) (now (order .exit)) r ⌝ }
@@ -362,7 +332,7 @@ fn fire(
     u: u8,
 ) -> usize
     requires { ⌜ TableRead (now s) ⌝ }
-    requires { ⌜ Inverses (now s) (terms (now s)) (now inverses) ⌝ }
+    requires { ⌜ Inverses (now s) (now inverses) ⌝ }
     requires { ⌜ Chaining (linked (now s) role) (terms (now s)) (now before) (now latest) ⌝ }
     requires { ⌜ Queue (now s) (now marks) (now order) end ⌝ }
     requires { ⌜ u < terms (now s) ⌝ }
@@ -389,7 +359,7 @@ fn take_apart(
 ) -> usize
     requires { ⌜ TableRead (now s) ⌝ }
     requires { ⌜ u < terms (now s) ⌝ }
-    requires { ⌜ Inverses (now s) (terms (now s)) (now inverses) ⌝ }
+    requires { ⌜ Inverses (now s) (now inverses) ⌝ }
     requires { ⌜ Queue (now s) (now marks) (now order) end ⌝ }
     requires { ⌜ getD (now marks) u 0 ≡ 1 ⌝ }
     ensures { λ r. ⌜ TakenApart (now (s .entry)) u (now (marks .entry)) (now (order .entry)) end (now (marks .exit)) (now (order .exit)) r ⌝ }
@@ -418,7 +388,7 @@ fn open_all(
     end: usize,
 ) -> usize
     requires { ⌜ TableRead (now s) ⌝ }
-    requires { ⌜ Inverses (now s) (terms (now s)) (now inverses) ⌝ }
+    requires { ⌜ Inverses (now s) (now inverses) ⌝ }
     requires { ⌜ Chaining (linked (now s) Role.Key) (terms (now s)) (now before) (now latest) ⌝ }
     requires { ⌜ Queue (now s) (now marks) (now order) end ⌝ }
     requires { ⌜ from ≤ end ⌝ }
@@ -504,7 +474,7 @@ fn compose(
     u: u8,
 ) -> usize
     requires { ⌜ TableRead (now s) ⌝ }
-    requires { ⌜ Inverses (now s) (terms (now s)) (now inverses) ⌝ }
+    requires { ⌜ Inverses (now s) (now inverses) ⌝ }
     requires { ⌜ Chaining (linked (now s) Role.Key) (terms (now s)) (now before) (now latest) ⌝ }
     requires { ⌜ Chaining (linked (now s) Role.First) (terms (now s)) (now before1) (now latest1) ⌝ }
     requires { ⌜ Chaining (linked (now s) Role.Second) (terms (now s)) (now before2) (now latest2) ⌝ }
@@ -531,7 +501,7 @@ fn compose_all(
     end: usize,
 ) -> usize
     requires { ⌜ TableRead (now s) ⌝ }
-    requires { ⌜ Inverses (now s) (terms (now s)) (now inverses) ⌝ }
+    requires { ⌜ Inverses (now s) (now inverses) ⌝ }
     requires { ⌜ Chaining (linked (now s) Role.Key) (terms (now s)) (now before) (now latest) ⌝ }
     requires { ⌜ Queue (now s) (now marks) (now order) end ⌝ }
     requires { ⌜ OpenTo (now s) (now marks) (now order) end ⌝ }
@@ -579,7 +549,7 @@ fn saturate(
     order: &mut [u8; 256],
 )
     requires { ⌜ TableRead (now s) ⌝ }
-    requires { ⌜ Inverses (now s) (terms (now s)) (now inverses) ⌝ }
+    requires { ⌜ Inverses (now s) (now inverses) ⌝ }
     requires { ⌜ Chaining (linked (now s) Role.Key) (terms (now s)) (now before) (now latest) ⌝ }
     requires { ⌜ now marks ≡ replicate 256 0 ⌝ }
     requires { ⌜ length (now order) ≡ 256 ⌝ }
@@ -599,13 +569,14 @@ fn saturated(s: &[u8], start: Marks) -> Marks
     requires { ⌜ TableRead (now s) ⌝ }
     ensures { λ r. ⌜ Exact (now (s .entry)) (start .state) (r .state) ⌝ }
 {
-    let inverse = inverses(s);
+    let mut inverses = [255u8; 256];
+    inverse::find(s, &mut inverses);
     let mut before = [255u8; 256];
     let mut latest = [255u8; 256];
-    chain(s, &inverse.state, Role::Key, &mut before, &mut latest);
+    chain(s, &inverses, Role::Key, &mut before, &mut latest);
     let mut state = [0u8; 256];
     let mut order = [0u8; 256];
-    saturate(s, &inverse.state, &before, &latest, &start.state, &mut state, &mut order);
+    saturate(s, &inverses, &before, &latest, &start.state, &mut state, &mut order);
     Marks { state }
 }
 
