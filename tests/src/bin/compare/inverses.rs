@@ -23,11 +23,18 @@ pub fn compare_inverses(
         same_bytes(input, &call, &expected_page, &found.page)?;
         tally.count(Call::Inverses, expected.map(|_| true));
         if matches!(expected, Ok(_) | Err(Refusal { reason: Reason::Page, .. })) {
-            let bodies = Bodies::read(&input.submission).expect("checks 1 to 4 are passed");
-            let written = expected.map_or(0, usize::from);
-            tally.keys.count_written(&bodies.terms, &expected_page[..written]);
-            tally.keys.count_page(bodies.terms.len(), page.len());
+            count(input, &expected_page, tally);
         }
     }
     Ok(())
+}
+
+/// Counts a page after the call, of a submission that passes checks 1 to 4; and what was written on it
+/// where it is exact, which is the same on every longer one.
+fn count(input: &Input, page: &[u8], tally: &mut Tally) {
+    let terms = Bodies::read(&input.submission).expect("checks 1 to 4 are passed").terms;
+    tally.keys.count_page(terms.len(), page.len());
+    if page.len() == terms.len() {
+        tally.keys.count_written(&terms, page);
+    }
 }
