@@ -1,4 +1,4 @@
-/* The checker's four calls, in libchecker.a (rt staticlib checker). bindings/ has an example in C, and a safe wrapper for Rust.
+/* The checker's five calls, in libchecker.a (rt staticlib checker). bindings/ has an example in C, and a safe wrapper for Rust.
 
    Answers. Every call takes any bytes and ends. An answer is one number. A refusal is number * 65536 + place, with the numbers and
    places of docs/VERDICTS.md; every other answer is below 65536. That each call answers what the definitions under crates/ give, and
@@ -54,6 +54,12 @@ uint32_t checker_run(const uint8_t *sub, size_t sub_len, uint16_t name, const ui
    never too short. */
 uint32_t checker_write(const uint8_t *terms, size_t terms_len, const uint8_t *knowledge, size_t knowledge_len, const uint8_t *derivation,
                        size_t derivation_len, const uint8_t *claim, size_t claim_len, uint8_t *page, size_t page_len);
+
+/* Finds the inverses of the submission's terms. The page gets one byte for each term, the number of its inverse, or 255 where none is
+   listed. A public and a private key with one name are each other's inverse; any other term gets 255. The answer is the count T of terms;
+   the first T bytes of the page are written, and the others are as before. A refusal is 1 to 4, then 11, with T as place, and leaves the
+   page as it was. The derivation and the claim are counted only. A page of 250 bytes is never too short. */
+uint32_t checker_inverses(const uint8_t *sub, size_t sub_len, uint8_t *page, size_t page_len);
 
 #ifdef __cplusplus
 }

@@ -12,6 +12,9 @@ static const uint8_t M1[] = {
 };
 static const uint8_t M1_PAGE[] = {0x01, 0x04, 0x01, 0x02, 0x3D, 0x03, 0x00};
 
+/* M1 has no keys with an inverse. */
+static const uint8_t M1_INVERSES[] = {0xFF, 0xFF, 0xFF};
+
 /* Where M1's bodies start, and how long they are. */
 enum { TERMS = 16, KNOWLEDGE = 25, DERIVATION = 27, CLAIM = 31 };
 enum { TERMS_LEN = 9, KNOWLEDGE_LEN = 2, DERIVATION_LEN = 4, CLAIM_LEN = 4 };
@@ -43,6 +46,9 @@ static void try_null(void)
     expect("run, no submission", REFUSED(1, 0), checker_run(NULL, 0, 2, M1_PAGE, sizeof M1_PAGE));
     expect("run, nothing", REFUSED(1, 0), checker_run(NULL, 0, 2, NULL, 0));
     expect("run, no program", REFUSED(13, 0), checker_run(M1, sizeof M1, 2, NULL, 0));
+    expect("inverses, no submission", REFUSED(1, 0), checker_inverses(NULL, 0, page, sizeof page));
+    expect("inverses, nothing", REFUSED(1, 0), checker_inverses(NULL, 0, NULL, 0));
+    expect("inverses, no page", REFUSED(11, sizeof M1_INVERSES), checker_inverses(M1, sizeof M1, NULL, 0));
 }
 
 static void try_null_bodies(void)
@@ -74,11 +80,28 @@ static void try_offset(size_t offset)
     expect("run, a byte short", REFUSED(13, 0), checker_run(sub + offset, sizeof M1, 2, page + offset, sizeof M1_PAGE - 1));
 }
 
+/* The submission and the page for the inverses, each this many bytes into a buffer. The bytes before the page and behind it stay. */
+static void try_inverses_offset(size_t offset)
+{
+    enum { TERM_COUNT = sizeof M1_INVERSES };
+    uint8_t sub[sizeof M1 + 8], page[TERM_COUNT + 9] = {0}, expected[TERM_COUNT + 9] = {0};
+    memcpy(sub + offset, M1, sizeof M1);
+    expect("inverses, a byte short", REFUSED(11, TERM_COUNT), checker_inverses(sub + offset, sizeof M1, page + offset, TERM_COUNT - 1));
+    expect("the page of a refusal", 0, memcmp(page, expected, sizeof page) != 0);
+    memcpy(expected + offset, M1_INVERSES, TERM_COUNT);
+    expect("inverses", TERM_COUNT, checker_inverses(sub + offset, sizeof M1, page + offset, TERM_COUNT));
+    expect("the inverses", 0, memcmp(page, expected, sizeof page) != 0);
+    expect("inverses, a byte more", TERM_COUNT, checker_inverses(sub + offset, sizeof M1, page + offset, TERM_COUNT + 1));
+    expect("the inverses again", 0, memcmp(page, expected, sizeof page) != 0);
+}
+
 int main(void)
 {
     try_null();
     try_null_bodies();
-    for (size_t offset = 0; offset < 8; offset++)
+    for (size_t offset = 0; offset < 8; offset++) {
         try_offset(offset);
+        try_inverses_offset(offset);
+    }
     return failures != 0;
 }

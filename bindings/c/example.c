@@ -25,8 +25,11 @@
 /* Where the terms start in every submission. */
 #define TERMS 16
 
-/* The longest submission: 250 terms, 64 entries of knowledge, 128 steps and a claim. */
-#define LONGEST (TERMS + 3 * 250 + 64 + 4 * 128 + 4)
+/* The most terms, and so the longest page of inverses. */
+#define MOST_TERMS 250
+
+/* The longest submission: the most terms, 64 entries of knowledge, 128 steps and a claim. */
+#define LONGEST (TERMS + 3 * MOST_TERMS + 64 + 4 * 128 + 4)
 
 /* Terms, knowledge, derivation and claim. */
 #define BODIES 4
@@ -107,6 +110,22 @@ static void show_deducible(const uint8_t *sub, size_t length)
     }
 }
 
+/* Prints the number of each term's inverse, 255 where none is listed. */
+static void show_inverses(const uint8_t *sub, size_t length)
+{
+    uint8_t page[MOST_TERMS];
+    uint32_t terms = checker_inverses(sub, length, page, sizeof page);
+    printf("inverses");
+    if (is_refusal(terms)) {
+        printf(" ");
+        print_answer(terms);
+        return;
+    }
+    for (uint32_t term = 0; term < terms; term++)
+        printf(" %u", (unsigned)page[term]);
+    printf("\n");
+}
+
 /* Writes the submission of these bodies to a page. */
 static uint32_t show_write(const struct body *bodies, uint8_t *page, size_t page_length)
 {
@@ -127,6 +146,7 @@ static void show_calls(const uint8_t *sub, size_t length)
     printf(is_refusal(steps) ? "check " : "check accepted ");
     print_answer(steps);
     show_deducible(sub, length);
+    show_inverses(sub, length);
     if (is_refusal(steps))
         return;
     size_t program_length = 3 * (size_t)steps + 4;

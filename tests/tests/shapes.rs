@@ -1,9 +1,9 @@
-//! The reference on the shapes with hashes: they are what their comments say.
+//! The reference on shapes: they are what their comments say.
 
 use checker_tests::bodies::Bodies;
 use checker_tests::generate::shapes::{
-    built, hash_key_chain, largest_built, locked_by_hashes, nested, nested_hash_keys, tower,
-    Nesting, Order, Secrets,
+    atoms, built, filled, hash_key_chain, largest_built, locked_by_hashes, nested,
+    nested_hash_keys, nested_pairs, private_key_chain, tower, Naming, Nesting, Order, Secrets,
 };
 use checker_tests::reference::{deducible, verdict};
 use checker_tests::tables::{Body, Kind};
@@ -108,5 +108,34 @@ fn each_opened_message_gives_the_next_key() {
         assert!(locked.len() >= 49 && are_deducible(&bodies, ends), "{title}");
         bodies.knowledge.remove(2);
         assert!(ends.into_iter().all(|number| !are_deducible(&bodies, [number])), "{title}");
+    }
+}
+
+#[test]
+fn atoms_up_to_the_limit() {
+    for naming in [Naming::BothBytes, Naming::OneLowByte] {
+        for kinds in [&[Kind::Plain][..], &[Kind::Public, Kind::Private]] {
+            let bodies = atoms(kinds, naming);
+            assert_eq!(bodies.terms.len(), 250);
+            assert_eq!(first_line(&bodies), "refused 5 0");
+        }
+    }
+}
+
+/// The last term is an atom that nobody knows, and there are few of these.
+#[test]
+fn a_filled_shape_has_so_many_terms() {
+    let shapes: [fn(usize) -> Bodies; 3] = [
+        |links| private_key_chain(links, Order::Rising),
+        |levels| nested_pairs(levels, levels / 4, levels / 3),
+        |links| hash_key_chain(Secrets::Hashes, links, 0, Order::Falling),
+    ];
+    for shape in shapes {
+        for terms in [25, 50, 249, 250] {
+            let bodies = filled(terms, shape);
+            assert_eq!(bodies.terms.len(), terms);
+            assert_eq!(first_line(&bodies), "accepted 1");
+            assert!(!are_deducible(&bodies, [terms - 1]) && are_deducible(&bodies, [terms - 6]));
+        }
     }
 }

@@ -13,7 +13,8 @@ use std::fs;
 use std::io::{self, Write};
 use std::process::ExitCode;
 
-use checker::{check, deducible, run, write, Refusal, LONGEST_PROGRAM, LONGEST_SUBMISSION};
+use checker::{check, deducible, inverses, run, write, Refusal};
+use checker::{LONGEST_PROGRAM, LONGEST_SUBMISSION, MOST_TERMS};
 
 fn main() -> ExitCode {
     match confirm() {
@@ -56,16 +57,16 @@ fn show_all(submission: &[u8], out: &mut impl Write) -> io::Result<()> {
 
 fn show_calls(submission: &[u8], out: &mut impl Write) -> io::Result<()> {
     let mut page = [0; LONGEST_PROGRAM];
-    match check(submission, &mut page) {
-        Ok(program) => {
-            writeln!(out, "check accepted {}", program[0])?;
-            show_deducible(submission, out)?;
-            show_signals(submission, program, out)
-        }
-        Err(refusal) => {
-            writeln!(out, "check {refusal}")?;
-            show_deducible(submission, out)
-        }
+    let checked = check(submission, &mut page);
+    match checked {
+        Ok(program) => writeln!(out, "check accepted {}", program[0])?,
+        Err(refusal) => writeln!(out, "check {refusal}")?,
+    }
+    show_deducible(submission, out)?;
+    show_inverses(submission, out)?;
+    match checked {
+        Ok(program) => show_signals(submission, program, out),
+        Err(_) => Ok(()),
     }
 }
 
@@ -79,6 +80,17 @@ fn show_deducible(submission: &[u8], out: &mut impl Write) -> io::Result<()> {
         }
     }
     Ok(())
+}
+
+/// Prints the number of each term's inverse, 255 where none is listed.
+fn show_inverses(submission: &[u8], out: &mut impl Write) -> io::Result<()> {
+    match inverses(submission, &mut [0; MOST_TERMS]) {
+        Ok(numbers) => {
+            let numbers: Vec<String> = numbers.iter().map(u8::to_string).collect();
+            writeln!(out, "inverses {}", numbers.join(" "))
+        }
+        Err(refusal) => writeln!(out, "inverses {refusal}"),
+    }
 }
 
 /// Runs the program of an accepted submission with its own guess, and with a wrong one.

@@ -1,4 +1,4 @@
-//! The checker's four calls, safe to call from Rust.
+//! The checker's five calls, safe to call from Rust.
 //!
 //! Every call takes any bytes and ends. What an answer means is proved of the calls themselves; of
 //! this wrapper nothing is proved, and it only turns the one number that a call answers into a
@@ -12,12 +12,18 @@ use std::fmt;
 
 const MOST_STEPS: usize = 128;
 
+/// A page of this length is never too short for [`inverses`]: one byte for each of the most terms.
+pub const MOST_TERMS: usize = 250;
+
+/// What [`inverses`] writes where no inverse is listed.
+pub const NO_INVERSE: u8 = 255;
+
 /// A page of this length is never too short for [`check`].
 pub const LONGEST_PROGRAM: usize = program_length(MOST_STEPS);
 
-/// A page of this length is never too short for [`write`]: the contents, 250 terms, 64 entries of
-/// knowledge, the most steps and the claim.
-pub const LONGEST_SUBMISSION: usize = 16 + 3 * 250 + 64 + 4 * MOST_STEPS + 4;
+/// A page of this length is never too short for [`write`]: the contents, the most terms, 64 entries
+/// of knowledge, the most steps and the claim.
+pub const LONGEST_SUBMISSION: usize = 16 + 3 * MOST_TERMS + 64 + 4 * MOST_STEPS + 4;
 
 /// A refusal, by a number and a place of `docs/VERDICTS.md`.
 #[derive(Clone, Copy, PartialEq, Eq, Debug)]
@@ -81,6 +87,18 @@ pub fn write<'page>(
 ) -> Result<&'page [u8], Refusal> {
     let length = decoded(raw::write(terms, knowledge, derivation, claim, page))?;
     Ok(&page[..usize::from(length)])
+}
+
+/// Finds the inverses of the submission's terms and writes them to the page: one byte for each term,
+/// the number of its inverse, or [`NO_INVERSE`] where none is listed. A public and a private key with
+/// one name are each other's inverse; no other term has one.
+///
+/// An acceptance gives the bytes written; they are the first of the page, and its other bytes are as
+/// before. A refusal is 1 to 4, then 11, with the count of terms as place, and leaves the whole page
+/// as it was. A page of [`MOST_TERMS`] bytes is never too short.
+pub fn inverses<'page>(submission: &[u8], page: &'page mut [u8]) -> Result<&'page [u8], Refusal> {
+    let terms = decoded(raw::inverses(submission, page))?;
+    Ok(&page[..usize::from(terms)])
 }
 
 /// The value of an answer, or its refusal.

@@ -27,6 +27,7 @@ extern "C" {
         page: *mut u8,
         page_len: usize,
     ) -> u32;
+    fn checker_inverses(sub: *const u8, sub_len: usize, page: *mut u8, page_len: usize) -> u32;
 }
 
 /// Checks a submission: the count N of its steps, or a refusal, 1 to 11.
@@ -74,5 +75,15 @@ pub fn write(
             page.as_mut_ptr(),
             page.len(),
         )
+    }
+}
+
+/// Writes the number of each term's inverse to the page: the count T of terms, or a refusal, 1 to 4
+/// or 11.
+pub fn inverses(submission: &[u8], page: &mut [u8]) -> u32 {
+    // SAFETY: each buffer is passed with its own length, and only the page, which nothing else
+    // refers to, is written.
+    unsafe {
+        checker_inverses(submission.as_ptr(), submission.len(), page.as_mut_ptr(), page.len())
     }
 }

@@ -1,6 +1,7 @@
 //! `bench MEASURE VERDICT [MEASURE VERDICT]`: the benchmark of a build of the checker, or of two. A
 //! build is the program `measure` with its library, and its program `verdict`. Takes the rounds of
-//! the builds in turn, and prints a Markdown table of medians and ranges over the rounds.
+//! the builds in turn, and prints a Markdown table of medians and ranges over the rounds; `-` where a
+//! build has no such call.
 
 use std::env;
 use std::process::Command;
@@ -8,10 +9,14 @@ use std::process::Command;
 /// How many rounds; an odd number, so that one of them is in the middle.
 const ROUNDS: usize = 11;
 
-/// A line of one round: what was measured, and the nanoseconds of the checker and the reference.
+/// What a line has in the place of a time that there is none of.
+const NO_TIME: &str = "-";
+
+/// A line of one round: what was measured, and the nanoseconds of the checker, if it has the call, and
+/// of the reference.
 struct Row {
     title: String,
-    checker: f64,
+    checker: Option<f64>,
     reference: f64,
 }
 
@@ -45,23 +50,26 @@ fn parsed(line: &str) -> Option<Row> {
     let (title, checker) = rest.rsplit_once('\t')?;
     Some(Row {
         title: title.replace('\t', " | "),
-        checker: checker.parse().ok()?,
+        checker: if checker == NO_TIME { None } else { Some(checker.parse().ok()?) },
         reference: reference.parse().ok()?,
     })
 }
 
 /// The line of the table for what the rounds gave, by build.
 fn line(rounds: &[Vec<&Row>]) -> String {
-    let over_rounds = |value: fn(&[&Row]) -> f64| spread(rounds.iter().map(|rows| value(rows)));
+    let over_rounds = |digits: usize, value: fn(&[&Row]) -> Option<f64>| {
+        let values: Option<Vec<f64>> = rounds.iter().map(|rows| value(rows)).collect();
+        values.map_or(NO_TIME.to_string(), |values| spread(values).text(digits))
+    };
     let mut cells = vec![
         rounds[0][0].title.clone(),
-        over_rounds(|rows| rows[0].checker).text(0),
-        over_rounds(|rows| rows[0].reference).text(0),
-        over_rounds(|rows| rows[0].reference / rows[0].checker).text(2),
+        over_rounds(0, |rows| rows[0].checker),
+        over_rounds(0, |rows| Some(rows[0].reference)),
+        over_rounds(2, |rows| Some(rows[0].reference / rows[0].checker?)),
     ];
     if rounds[0].len() == 2 {
-        cells.push(over_rounds(|rows| rows[1].checker).text(0));
-        cells.push(over_rounds(|rows| rows[0].checker / rows[1].checker).text(2));
+        cells.push(over_rounds(0, |rows| rows[1].checker));
+        cells.push(over_rounds(2, |rows| Some(rows[0].checker? / rows[1].checker?)));
     }
     format!("| {} |", cells.join(" | "))
 }
@@ -72,8 +80,7 @@ struct Spread {
     most: f64,
 }
 
-fn spread(values: impl Iterator<Item = f64>) -> Spread {
-    let mut sorted: Vec<f64> = values.collect();
+fn spread(mut sorted: Vec<f64>) -> Spread {
     sorted.sort_by(f64::total_cmp);
     Spread { median: sorted[ROUNDS / 2], least: sorted[0], most: sorted[ROUNDS - 1] }
 }

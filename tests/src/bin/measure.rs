@@ -1,7 +1,7 @@
 //! `measure VERDICT`: one round of the benchmark. Times the checker over its C boundary, and its
 //! program VERDICT from start to end, beside the reference and on the same inputs. Prints a line
-//! for each input: call, input, bytes, and the nanoseconds of the checker and of the reference.
-//! Pages are not cleared between calls.
+//! for each input: call, input, bytes, and the nanoseconds of the checker and of the reference. A `-`
+//! is for a call that the library has no more than by name. Pages are not cleared between calls.
 
 use std::env;
 use std::ffi::OsStr;
@@ -13,15 +13,22 @@ use std::time::{Duration, Instant};
 use checker::raw;
 use checker_tests::bodies::{self, Bodies};
 use checker_tests::examples;
-use checker_tests::generate::shapes::{self, Nesting, Order, Secrets};
+use checker_tests::generate::shapes::{self, Naming, Nesting, Order, Secrets};
 use checker_tests::generate::{padded, repeated, shortest, Form, UNLISTED};
 use checker_tests::reference::{self, code, Guesses};
-use checker_tests::tables::{Body, Rule, Test, LONGEST_PROGRAM, LONGEST_SUBMISSION};
+use checker_tests::tables::{Body, Kind, Rule, Test, LONGEST_PROGRAM, LONGEST_SUBMISSION};
 
 /// The shortest time to measure, and how many measurements the fastest is taken of. Short ones end
 /// before another process gets the processor.
 const SHORTEST: Duration = Duration::from_millis(1);
 const MEASUREMENTS: usize = 25;
+
+/// The answer of a call that the library has only so that this program links. `bench/run` adds such
+/// calls to another library that lacks them.
+const NO_CALL: u32 = u32::MAX;
+
+/// The counts of terms for which a shape's cost is compared.
+const GROWING: [usize; 5] = [25, 50, 100, 200, 250];
 
 /// An example of about twenty terms.
 const TYPICAL: &str = "003-needham-schroeder-kas";
@@ -31,7 +38,7 @@ fn main() {
     for (title, submission) in submissions() {
         measure_check(&title, &submission);
     }
-    for (title, submission) in submissions() {
+    for (title, submission) in submissions().into_iter().chain(growing()) {
         measure_deducible(&title, &submission);
     }
     measure_own_page("M1", &examples::submission("M1"));
@@ -49,6 +56,9 @@ fn main() {
     measure_write_again("typical", &examples::submission(TYPICAL));
     measure_write_again("largest", &shapes::largest().submission());
     measure_write("70,000 records in each body, refused", &Form::zeros(70_000));
+    for (title, submission) in key_tables() {
+        measure_inverses(title, &submission);
+    }
     for name in ["M1", TYPICAL] {
         measure_program(name, &verdict);
     }
@@ -56,7 +66,7 @@ fn main() {
 
 fn submissions() -> Vec<(String, Vec<u8>)> {
     let terms = Body::Terms.most();
-    let mut submissions = vec![
+    let submissions = vec![
         ("M1".to_string(), examples::submission("M1")),
         ("typical (Needham-Schroeder)".to_string(), examples::submission(TYPICAL)),
         ("largest accepted".to_string(), shapes::largest().submission()),
@@ -69,26 +79,75 @@ fn submissions() -> Vec<(String, Vec<u8>)> {
             "49 nested keys, hashes of hashes".to_string(),
             shapes::nested_hash_keys(49, 2).submission(),
         ),
+        (
+            "250 atoms with one low byte".to_string(),
+            shapes::atoms(&[Kind::Plain], Naming::OneLowByte).submission(),
+        ),
     ];
+    [submissions, chains()].concat()
+}
+
+/// Messages of which each opened one gives the key of the next.
+fn chains() -> Vec<(String, Vec<u8>)> {
+    let mut chains = Vec::new();
     for (word, order) in Order::ALL {
-        submissions.push((
+        chains.push((
             format!("76 private keys, {word}"),
             shapes::private_key_chain(76, order).submission(),
         ));
-        submissions.push((
+        chains.push((
             format!("52 plain keys, 75 locked, {word}"),
             shapes::plain_key_chain(52, 75, order).submission(),
         ));
-        submissions.push((
+        chains.push((
             format!("61 keys, hashes of hashes, {word}"),
             shapes::hash_key_chain(Secrets::Atoms, 61, 2, order).submission(),
         ));
-        submissions.push((
+        chains.push((
             format!("102 keys down one chain of hashes, {word}"),
             shapes::hash_key_chain(Secrets::Hashes, 102, 0, order).submission(),
         ));
     }
-    submissions
+    chains
+}
+
+/// Shapes of the submissions above with fewer terms and with as many, of which the last is an atom
+/// that nobody knows. The parts of a shape have the same proportions.
+fn growing() -> Vec<(String, Vec<u8>)> {
+    let shapes: [(&str, fn(usize) -> Bodies); 4] = [
+        ("private keys", |links| shapes::private_key_chain(links, Order::Rising)),
+        ("plain keys, locked", |links| {
+            shapes::plain_key_chain(links, links * 75 / 52, Order::Rising)
+        }),
+        ("nested pairs", |levels| {
+            shapes::nested_pairs(levels, levels * 40 / 143, levels * 60 / 143)
+        }),
+        ("keys down one chain of hashes", |links| {
+            shapes::hash_key_chain(Secrets::Hashes, links, 0, Order::Rising)
+        }),
+    ];
+    let mut growing = Vec::new();
+    for (title, shape) in shapes {
+        for terms in GROWING {
+            let submission = shapes::filled(terms, shape).submission();
+            growing.push((format!("{title}, T = {terms}"), submission));
+        }
+    }
+    growing
+}
+
+/// Submissions to find the inverses of.
+fn key_tables() -> Vec<(&'static str, Vec<u8>)> {
+    let key_kinds = [Kind::Public, Kind::Private];
+    let atoms = |kinds: &[Kind], naming| shapes::atoms(kinds, naming).submission();
+    vec![
+        ("M1", examples::submission("M1")),
+        ("typical (Needham-Schroeder)", examples::submission(TYPICAL)),
+        ("largest accepted", shapes::largest().submission()),
+        ("125 pairs of keys", atoms(&key_kinds, Naming::BothBytes)),
+        ("125 pairs of keys with one low byte", atoms(&key_kinds, Naming::OneLowByte)),
+        ("250 public keys with one low byte", atoms(&[Kind::Public], Naming::OneLowByte)),
+    ]
 }
 
 /// A chain of hashes of the guess up to the limit on terms, of which so many are steps.
@@ -98,7 +157,7 @@ fn hash_chain(steps: usize) -> Vec<u8> {
 
 fn measure_check(title: &str, submission: &[u8]) {
     let mut page = [0; LONGEST_PROGRAM];
-    let checker = nanoseconds(|| raw::check(black_box(submission), &mut page));
+    let checker = answered(|| raw::check(black_box(submission), &mut page));
     let reference = nanoseconds(|| code(reference::check(black_box(submission), &mut page)));
     print_row("check", title, submission.len(), checker, reference);
 }
@@ -106,7 +165,7 @@ fn measure_check(title: &str, submission: &[u8]) {
 /// Asks for the last term.
 fn measure_deducible(title: &str, submission: &[u8]) {
     let last = (bodies(submission).terms.len() - 1) as u8;
-    let checker = nanoseconds(|| raw::deducible(black_box(submission), last));
+    let checker = answered(|| raw::deducible(black_box(submission), last));
     let reference = nanoseconds(|| code(reference::deducible(black_box(submission), last)));
     print_row("deducible", title, submission.len(), checker, reference);
 }
@@ -118,7 +177,7 @@ fn measure_run(title: &str, submission: &[u8], program: &[u8]) {
 }
 
 fn measure_name(title: &str, submission: &[u8], name: u16, program: &[u8]) {
-    let checker = nanoseconds(|| raw::run(black_box(submission), name, program));
+    let checker = answered(|| raw::run(black_box(submission), name, program));
     let reference = nanoseconds(|| code(reference::run(black_box(submission), name, program)));
     print_row("run", title, submission.len() + program.len(), checker, reference);
 }
@@ -175,7 +234,7 @@ fn measure_write(title: &str, form: &Form) {
     let [terms, knowledge, derivation, claim] = form.bodies();
     let mut page = form.page.clone();
     let checker =
-        nanoseconds(|| raw::write(black_box(terms), knowledge, derivation, claim, &mut page));
+        answered(|| raw::write(black_box(terms), knowledge, derivation, claim, &mut page));
     let reference = nanoseconds(|| code(reference::write(black_box(form.bodies()), &mut page)));
     print_row("write", title, form.bodies().concat().len(), checker, reference);
 }
@@ -186,11 +245,18 @@ fn measure_write_again(title: &str, submission: &[u8]) {
     measure_write(&format!("{title}, its own bodies"), &form);
 }
 
+fn measure_inverses(title: &str, submission: &[u8]) {
+    let mut page = [0; Body::Terms.most()];
+    let checker = answered(|| raw::inverses(black_box(submission), &mut page));
+    let reference = nanoseconds(|| code(reference::inverses(black_box(submission), &mut page)));
+    print_row("inverses", title, submission.len(), checker, reference);
+}
+
 /// Starts the program on an example, and the reference's program, which is built beside this one.
 fn measure_program(name: &str, verdict: &OsStr) {
     let this = env::current_exe().expect("the path of this program");
     let reference = this.with_file_name("reference");
-    let checker = nanoseconds(|| started(verdict, name));
+    let checker = Some(nanoseconds(|| started(verdict, name)));
     let reference = nanoseconds(|| started(reference.as_os_str(), name));
     print_row("verdict", name, examples::submission(name).len(), checker, reference);
 }
@@ -203,6 +269,11 @@ fn started(program: &OsStr, name: &str) {
 
 fn bodies(submission: &[u8]) -> Bodies {
     Bodies::read(submission).expect("a submission with four bodies")
+}
+
+/// The time of a call of the library, where that has it.
+fn answered(mut call: impl FnMut() -> u32) -> Option<f64> {
+    (call() != NO_CALL).then(|| nanoseconds(call))
 }
 
 /// The time of a call, by the fastest measurement.
@@ -224,6 +295,7 @@ fn timed<T>(call: &mut impl FnMut() -> T, calls: u32) -> Duration {
     start.elapsed()
 }
 
-fn print_row(call: &str, title: &str, bytes: usize, checker: f64, reference: f64) {
+fn print_row(call: &str, title: &str, bytes: usize, checker: Option<f64>, reference: f64) {
+    let checker = checker.map_or("-".to_string(), |nanoseconds| nanoseconds.to_string());
     println!("{call}\t{title}\t{bytes}\t{checker}\t{reference}");
 }

@@ -69,6 +69,10 @@ fn needs(stack: &mut Stack, input: &Input) -> [usize; Call::ALL.len()] {
             let mut page = form.page.clone();
             stack.used_by(|| raw::write(terms, knowledge, derivation, claim, &mut page))
         }),
+        Call::Inverses => most(&input.inverse_pages, |page| {
+            let mut page = page.clone();
+            stack.used_by(|| raw::inverses(&input.submission, &mut page))
+        }),
     })
 }
 

@@ -3,10 +3,10 @@
 
 use super::names::Names;
 use super::program::{repeated, shortest};
-use super::shapes::{self, Nesting};
+use super::shapes::{self, Naming, Nesting};
 use super::{Form, Input, UNLISTED};
 use crate::bodies::Bodies;
-use crate::tables::{Body, Rule, Test, LONGEST_PROGRAM, LONGEST_SUBMISSION};
+use crate::tables::{Body, Kind, Rule, Test, LONGEST_PROGRAM, LONGEST_SUBMISSION};
 
 /// The inputs, each with a title.
 pub fn deepest() -> Vec<(String, Input)> {
@@ -24,6 +24,10 @@ pub fn deepest() -> Vec<(String, Input)> {
         ("hashes of the guess".to_string(), shapes::built(Nesting::Hashes, Body::Terms.most(), 1)),
         ("a key of hashes of a known atom".to_string(), shapes::locked_by_hashes(true)),
         ("a key of hashes of a hidden atom".to_string(), shapes::locked_by_hashes(false)),
+        (
+            "pairs of keys up to the limit".to_string(),
+            shapes::atoms(&[Kind::Public, Kind::Private], Naming::OneLowByte),
+        ),
     ]);
     titled.into_iter().map(|(title, bodies)| (title, input(&bodies))).collect()
 }
@@ -39,6 +43,7 @@ fn input(bodies: &Bodies) -> Input {
         runs: runs(bodies, &names),
         names,
         forms: vec![Form::new(bodies.bytes(), LONGEST_SUBMISSION)],
+        inverse_pages: vec![vec![0xA5; Body::Terms.most()]],
         submission,
     }
 }

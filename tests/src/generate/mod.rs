@@ -4,6 +4,7 @@
 mod damage;
 mod deepest;
 mod form;
+mod keys;
 mod limits;
 mod names;
 mod program;
@@ -42,6 +43,8 @@ pub struct Input {
     /// What to write: first the submission's own bodies, where it passes checks 1 and 2, on a page
     /// that is long enough.
     pub forms: Vec<Form>,
+    /// Pages before the inverses are written.
+    pub inverse_pages: Vec<Vec<u8>>,
 }
 
 /// A name that no example and no deepest input lists, and so that of a wrong guess.
@@ -77,6 +80,7 @@ impl Source {
             runs: self.runs(&submission, &names, &tried),
             names: tried,
             forms: self.forms(&submission),
+            inverse_pages: self.inverse_pages(&submission),
             submission,
         }
     }
@@ -90,7 +94,7 @@ impl Source {
     }
 
     fn submission(&mut self) -> Vec<u8> {
-        match self.random.weighted(&[500, 280, 120, 40, 10, 40, 10]) {
+        match self.random.weighted(&[500, 280, 120, 40, 10, 40, 10, 20]) {
             0 => self.protocol().submission(),
             1 => self.changed().submission(),
             2 => {
@@ -100,7 +104,8 @@ impl Source {
             3 => self.near_limits().submission(),
             4 => limits::wild_counts(&mut self.random),
             5 => self.noise(),
-            _ => self.shape().submission(),
+            6 => self.shape().submission(),
+            _ => self.keys().submission(),
         }
     }
 
@@ -134,6 +139,15 @@ impl Source {
             return padded;
         }
         damage::changed_records(&mut self.random, &padded)
+    }
+
+    /// A table of keys, perhaps with a change.
+    fn keys(&mut self) -> Bodies {
+        let bodies = keys::keys(&mut self.random);
+        if self.random.chance(80) {
+            return bodies;
+        }
+        damage::changed_records(&mut self.random, &bodies)
     }
 
     /// Plain bytes, or one record of plain bytes in each body.
@@ -215,6 +229,16 @@ impl Source {
                 vec![form::changed(&mut self.random, self.kept[place].bytes())]
             }
         }
+    }
+
+    /// Pages of random bytes: none, too short by one, exact, longer, and one that is too short, or is
+    /// so in its low byte or in its low two bytes.
+    fn inverse_pages(&mut self, submission: &[u8]) -> Vec<Vec<u8>> {
+        let terms = Bodies::read(submission).map_or(1, |bodies| bodies.terms.len());
+        let longer = terms + self.random.between(1, 20);
+        let over = [0, 256, 65_536][self.random.weighted(&[50, 49, 1])];
+        let short = over + self.random.below(terms);
+        [0, terms - 1, terms, longer, short].map(|length| self.random.bytes(length)).to_vec()
     }
 }
 

@@ -1,5 +1,5 @@
-//! Submissions of regular shape that make much work. All of them but the tower pass checks 1 to 7,
-//! and the search for what is deducible goes on until nothing more opens.
+//! Submissions of regular shape that make much work. All of them but the tower and the atoms pass
+//! checks 1 to 7, and the search for what is deducible goes on until nothing more opens.
 
 use super::limits::padded;
 use super::steps::{building, step};
@@ -83,6 +83,43 @@ pub fn largest() -> Bodies {
             .collect(),
         claim: [guess, levels as u8, Way::KnownBefore.letter(), 0],
     }
+}
+
+/// How atoms are named: so that both bytes of their names differ, or the high byte only.
+#[derive(Clone, Copy)]
+pub enum Naming {
+    BothBytes,
+    OneLowByte,
+}
+
+impl Naming {
+    /// A name for each index up to 255.
+    fn name(self, index: usize) -> u16 {
+        let index = index as u8;
+        match self {
+            Naming::BothBytes => u16::from_be_bytes([index.wrapping_mul(37), index]),
+            Naming::OneLowByte => u16::from_be_bytes([index, 5]),
+        }
+    }
+}
+
+/// Atoms alone, up to the limit on terms: all of the first kind, then as many of the next, with the
+/// same names. No step, so check 5 refuses it.
+pub fn atoms(kinds: &[Kind], naming: Naming) -> Bodies {
+    let mut table = Table::default();
+    for &kind in kinds {
+        for index in 0..Body::Terms.most() / kinds.len() {
+            table.atom(kind, naming.name(index));
+        }
+    }
+    Bodies { terms: table.records, ..Bodies::default() }
+}
+
+/// Of the shapes with 1 part, with 2 and so on, the largest that is below so many terms, with atoms
+/// that nobody knows up to these.
+pub fn filled(terms: usize, shape: impl Fn(usize) -> Bodies) -> Bodies {
+    let below = (1..).map(shape).take_while(|bodies| bodies.terms.len() < terms);
+    padded(&below.last().expect("one part fits"), terms, 0, 0)
 }
 
 /// The guess, and compounds nested around it up to `terms` terms. The steps build so many of these,

@@ -7,6 +7,7 @@ mod deduction;
 mod derivation;
 mod form;
 mod guesses;
+mod inverses;
 mod machine;
 mod parts;
 mod program;
@@ -90,6 +91,14 @@ pub fn write(bodies: BodyBytes, page: &mut [u8]) -> Checked<u16> {
     let submission = form::submission(bodies)?;
     put(page, &submission)?;
     Ok(u16::try_from(submission.len()).expect("check 2 leaves short bodies"))
+}
+
+/// Writes the number of each term's inverse on the page. An acceptance carries the count of terms.
+pub fn inverses(submission: &[u8], page: &mut [u8]) -> Checked<u8> {
+    let submission = Submission::read(submission)?;
+    let numbers = inverses::numbers(&submission.terms);
+    put(page, &numbers)?;
+    Ok(u8::try_from(numbers.len()).expect("check 2 leaves a count of one byte"))
 }
 
 /// What the program `verdict` prints.

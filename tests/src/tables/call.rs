@@ -21,4 +21,7 @@ table! {
         Reason::Stale,
     ] }
     Write     { word: "write",     refusals: &[Reason::Ragged, Reason::Count, Reason::Page] }
+    Inverses  { word: "inverses",  refusals: &[
+        Reason::Contents, Reason::Count, Reason::Term, Reason::Knowledge, Reason::Page,
+    ] }
 }

@@ -29,6 +29,9 @@ table! {
     Hash    { number: 7, word: Rule::Hash.word(), inverse: None, rule: Some(Rule::Hash), keys: &[] }
 }
 
+/// What stands for the number of a term's inverse where none is listed. No term has this number.
+pub const NO_INVERSE: u8 = 255;
+
 impl Kind {
     pub fn from_number(number: u8) -> Option<Kind> {
         Kind::ALL.into_iter().find(|kind| kind.number() == number)

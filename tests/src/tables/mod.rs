@@ -44,7 +44,7 @@ mod way;
 
 pub use body::{Body, CONTENTS_SIZE, ENTRY_SIZE, LONGEST_SUBMISSION};
 pub use call::Call;
-pub use kind::Kind;
+pub use kind::{Kind, NO_INVERSE};
 pub use program::{program_length, Test, INSTRUCTION_SIZE, LONGEST_PROGRAM, MOST_INSTRUCTIONS};
 pub use reason::Reason;
 pub use rule::{Opener, Rule, Taking};

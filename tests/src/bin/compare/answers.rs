@@ -21,6 +21,8 @@ pub struct Answers {
     /// submission is accepted.
     pub page_runs: Vec<u32>,
     pub writes: Vec<Written>,
+    /// One for each of the input's pages.
+    pub inverses: Vec<Inverses>,
 }
 
 /// What the checker answers to a form.
@@ -30,6 +32,13 @@ pub struct Written {
     pub page: Vec<u8>,
     /// What check answers to the bytes written, where the form is accepted.
     pub check: Option<u32>,
+}
+
+/// What the checker answers where it is asked for the inverses.
+pub struct Inverses {
+    pub answer: u32,
+    /// The page after the call.
+    pub page: Vec<u8>,
 }
 
 /// The answers to these inputs. A call that needs more stack ends the process, with the thread's
@@ -65,6 +74,7 @@ impl Answers {
                 .map(|(name, program)| raw::run(submission, *name, program))
                 .collect(),
             writes: input.forms.iter().map(Written::to).collect(),
+            inverses: input.inverse_pages.iter().map(|page| Inverses::of(input, page)).collect(),
         }
     }
 }
@@ -77,6 +87,14 @@ impl Written {
         let written = if answer < REFUSAL { page.get(..answer as usize) } else { None };
         let check = written.map(|written| raw::check(written, &mut [0; LONGEST_PROGRAM]));
         Written { answer, page, check }
+    }
+}
+
+impl Inverses {
+    fn of(input: &Input, page: &[u8]) -> Inverses {
+        let mut page = page.to_vec();
+        let answer = raw::inverses(&input.submission, &mut page);
+        Inverses { answer, page }
     }
 }
 

@@ -6,6 +6,8 @@
 
 mod answers;
 mod forms;
+mod inverses;
+mod keys;
 mod names;
 mod rows;
 mod runs;
@@ -23,6 +25,7 @@ use checker_tests::generate::{deepest, Input, Source};
 use checker_tests::reference::{self, code, REFUSAL};
 use checker_tests::tables::Call;
 use forms::compare_form;
+use inverses::compare_inverses;
 use runs::{compare_page_runs, compare_runs};
 use tally::Tally;
 
@@ -115,7 +118,7 @@ fn compare_input(input: &Input, found: &Answers, tally: &mut Tally) -> Result<()
     for (form, found) in input.forms.iter().zip(&found.writes) {
         compare_form(input, form, found, tally)?;
     }
-    Ok(())
+    compare_inverses(input, &found.inverses, tally)
 }
 
 /// The verdict and the whole page; and where the submission is accepted, what the page signals.

@@ -6,6 +6,7 @@ use checker_tests::bodies::Bodies;
 use checker_tests::reference::{Checked, Refusal};
 use checker_tests::tables::{Body, Call, Kind, Reason, Way};
 
+use crate::keys::Keys;
 use crate::names::Names;
 use crate::rows::Rows;
 
@@ -28,6 +29,7 @@ pub struct Tally {
     accepted: [[u64; Kind::ALL.len()]; Way::ALL.len()],
     pub rows: Rows,
     pub names: Names,
+    pub keys: Keys,
     /// Submissions written again from their own bodies.
     pub rewritten: u64,
 }
@@ -81,6 +83,8 @@ impl Tally {
         self.rows.print();
         println!();
         self.names.print();
+        println!();
+        self.keys.print();
         println!("\nsubmissions written again from their bodies: {}", self.rewritten);
     }
 
@@ -91,8 +95,8 @@ impl Tally {
     }
 
     /// Fails where one of a call's refusals, a count at one of the places, an acceptance, a way, a
-    /// kind of guess, a row of the tables of kinds and rules, or a row of names was never reached, or
-    /// where no submission was written again.
+    /// kind of guess, a row of the tables of kinds and rules, a row of names or a row of inverses was
+    /// never reached, or where no submission was written again.
     pub fn complete(&self) -> Result<(), String> {
         let mut missing: Vec<String> = Call::ALL
             .into_iter()
@@ -110,6 +114,7 @@ impl Tally {
         }
         missing.extend(self.rows.missing());
         missing.extend(self.names.missing());
+        missing.extend(self.keys.missing());
         if self.rewritten == 0 {
             missing.push("a submission written again".to_string());
         }
