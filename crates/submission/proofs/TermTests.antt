@@ -13,7 +13,7 @@ use lib.ListN.{length, getD, set, replicate, length-set, length-replicate, getD-
 use lib.Seq.{getD-set-same, getD-set-other}
 use borrow.Author.Count.{below-more}
 use borrow.Author.Tests.{eq-eqb, ne-eqb, lt-ltb, le-ltb}
-use Rattle.base.specs.{Words.Bytes, Computed.any, Code.isSome, Code.Chained, Code.Chaining}
+use Rattle.base.specs.{Computed.any, Code.isSome, Code.Chained, Code.Chaining}
 use Rattle.base.proofs.Chains.{Walk, chaining-more, walk-start, walk-end, walk-below, walk-more, walk-less}
 use Rattle.base.proofs.Order.{lt-or-ge}
 use Rattle.base.proofs.First.{first-found}
@@ -103,26 +103,19 @@ same-record j p e h = rw (← (p .kind), ← (p .x), ← (p .y)) (sym e ∙ h)
 -- ---- the chains of records
 -- equal records are in one chain
 chain-apart : (s : List ℕ) (i k : ℕ) → (chainedBy s k ≡ chainedBy s i → ⊥) → sameRecord s i k ≡ false
-chain-apart s i k d = denies _ (says-same s i k) .1 (λ (e, (x, y)). d (rw (e, x, y)))
-
-chained-byte : (s : List ℕ) → Bytes s → (i : ℕ) → chainedBy s i < 256
-chained-byte s b i = go (isUnary (shapeOf (kindAt s i)))
-  where
-    go : (u : Bool) → cond u (xAt s i) (yAt s i) < 256
-    go true = b _
-    go false = b _
+chain-apart s i k d = denies _ (says-same s i k) .1 (λ (e, (x, y)). d (rw (x, y)))
 
 -- one record more
-pub record-chained : (s : List ℕ) {before latest : List ℕ} {i w v r n : ℕ} {t : Term} → Chaining (chainedBy s) i before latest → i < n → n < 256 → IsTerm s i t → v ≡ r → r ≡ cond (isUnary (shapeOf (t .kind))) (t .x) (t .y) → w ≡ i → v < 256 →
+pub record-chained : (s : List ℕ) {before latest : List ℕ} {i w v n : ℕ} {t : Term} → Chaining (chainedBy s) i before latest → i < n → n < 256 → IsTerm s i t → v ≡ (t .x + t .y) % 256 → w ≡ i →
     Chaining (chainedBy s) (i + 1) (set before w (getD latest v 0)) (set latest v i)
-record-chained s p l m q f o g h = chaining-more p (omega arith) (sym (f ∙ o ∙ rw (q .kind, q .x, q .y))) g h
+record-chained s p l m q o e = chaining-more p (omega arith) (sym (o ∙ rw (q .x, q .y))) e (omega arith)
 
 -- the walk along the chain of record i: those that it has seen are other records
 abbrev pub Apart : List ℕ → ℕ → ℕ → Type 0
 Apart s i j = Walk (chainedBy s) (λ k. sameRecord s i k ≡ false) i (chainedBy s i) j
 
-pub apart-start : (s : List ℕ) {before : List ℕ} (i : ℕ) {w : ℕ} → Bytes s → Chained (chainedBy s) (i + 1) before → w ≡ i → Apart s i (getD before w 0)
-apart-start s i b q e = let l = chained-byte s b i in walk-start l (rw e (q .is i (omega arith) l))
+pub apart-start : (s : List ℕ) {before : List ℕ} (i : ℕ) {w : ℕ} → Chained (chainedBy s) (i + 1) before → w ≡ i → Apart s i (getD before w 0)
+apart-start s i q e = let l : chainedBy s i < 256 = omega arith in walk-start l (rw e (q .is i (omega arith) l))
 
 module _ (s : List ℕ) (i : ℕ) {j : ℕ} (p : Apart s i j) where
   pub apart-end : j ≡ 255 → false ≡ any (sameRecord s i) i

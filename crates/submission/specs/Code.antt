@@ -1,6 +1,6 @@
 -- What the code's records mean in document 01's terms.
 use mathlib.Core.{Path._≡_, Bool.cond, List.List, Option.Option, Option.none, Option.some}
-use Prim.Native.Nat.{ℕ, _+_, _*_, _≤_, _<_}
+use Prim.Native.Nat.{ℕ, _+_, _*_, _%_, _≤_, _<_}
 use lib.ListN.{length, getD}
 use Rattle.submission.specs.declared.Term.{Term}
 use Rattle.submission.specs.declared.Claim.{Claim}
@@ -103,9 +103,9 @@ pub record ReadingIs (s : List ℕ) (d : Check) (r : Reading) : Type 0 where
   pub answer : readingCheck r ≡ d
   pub claim : (c : Claim) → r ≡ Good c → IsClaim s c
 
--- the byte by which records are chained: y, or x for a kind with one operand, whose y is 0
+-- the byte by which records are chained: the sum of x and y; equal records have the same
 abbrev pub chainedBy : List ℕ → ℕ → ℕ
-chainedBy s i = cond (isUnary (shapeOf (kindAt s i))) (xAt s i) (yAt s i)
+chainedBy s i = (xAt s i + yAt s i) % 256
 
 -- what the limits say of the counts that programs and registers are made of
 pub record Limited (s : List ℕ) : Type 0 where

@@ -9,7 +9,7 @@ use term::Relation;
 use term::kinds;
 ghost use mathlib.Core.Path.{_≡_};
 ghost use mathlib.Core.Bool.{_&&_, not};
-ghost use Prim.Native.Nat.{_+_, _*_, _<_};
+ghost use Prim.Native.Nat.{_+_, _*_, _%_, _<_};
 ghost use lib.Dec.{eqb};
 ghost use lib.ListN.{getD};
 ghost use Rattle.base.specs.Words.{first, byte as byteAt};
@@ -314,8 +314,15 @@ fn is_term_bad(s: &[u8], before: &[u8; 256], i: u8) -> bool
     true
 }
 
-// Records are chained by y, and hashes, which all have y = 0, by x. `before` has for each record the latest earlier one of its chain, and
-// `latest` for each byte the latest record that is chained by it; 255 stands for none, since a record's number is below 255.
+// The byte by which a record is chained: the sum of x and y, which is the same for equal records and for few others.
+fn chain_of(t: Term) -> usize
+    ensures { λ r. ⌜ r ≡ (t .x + t .y) % 256 ⌝ }
+{
+    (wide(t.x) + wide(t.y)) % 256
+}
+
+// Records are chained. `before` has for each record the latest earlier one of its chain, and `latest` for
+// each byte the latest record that is chained by it; 255 stands for none, since a record's number is below 255.
 pub fn check_terms(s: &[u8]) -> Stage
     ensures { λ r. ⌜ checkOf r ≡ failsAt 3 (first (badTerm (now (s .entry))) (termCount (now (s .entry)))) ⌝ }
 {
@@ -325,7 +332,7 @@ pub fn check_terms(s: &[u8]) -> Stage
     let mut i: u8 = 0;
     while i < n {
         let t = term_at(s, i);
-        let chain = wide(kinds::second_part(t.kind, t.x, t.y));
+        let chain = chain_of(t);
         before[wide(i)] = latest[chain];
         latest[chain] = i;
         if is_term_bad(s, &before, i) {

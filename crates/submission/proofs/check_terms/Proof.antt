@@ -27,17 +27,14 @@ loop-holds c = (passed-none, chaining-none)
 term-at-requires : tie.Need-term-at-requires Inv-loop μ-loop
 term-at-requires c κs = search scan
 
-second-part-requires : tie.Need-second-part-requires Inv-loop μ-loop
-second-part-requires c κs = search scan
-
-wide-requires : tie.Need-wide-requires Inv-loop μ-loop
-wide-requires c κs = search scan
+chain-of-requires : tie.Need-chain-of-requires Inv-loop μ-loop
+chain-of-requires c κs = search scan
 
 array-read-before : tie.Need-array-read-before Inv-loop μ-loop
 array-read-before c = search scan
 
-wide-requires-2 : tie.Need-wide-requires-2 Inv-loop μ-loop
-wide-requires-2 c κs = search scan
+wide-requires : tie.Need-wide-requires Inv-loop μ-loop
+wide-requires c κs = search scan
 
 array-write-before : tie.Need-array-write-before Inv-loop μ-loop
 array-write-before c = search scan
@@ -48,11 +45,10 @@ array-write-latest c = search scan
 is-term-bad-requires : tie.Need-is-term-bad-requires Inv-loop μ-loop
 is-term-bad-requires c κs =
     let d = c .before in
-    let e = d .before .before in
+    let e = d .before in
     let at = e .before .before in
     let m : at .before .before .terms .result < 256 = omega arith in
-    let h : d .before .wide .result < 256 = omega arith in
-    record-chained _ (at .before .loop .inv .1) (at .loop-test .taken) m (e .before .term-at .ensures) (d .before .wide .ensures) (e .second-part .ensures) (d .wide2 .ensures) h .chained
+    record-chained _ (at .before .loop .inv .1) (at .loop-test .taken) m (e .before .term-at .ensures) (e .chain-of .ensures) (d .wide .ensures) .chained
 
 wide16-requires : tie.Need-wide16-requires Inv-loop μ-loop
 wide16-requires c κs = search scan
@@ -69,11 +65,10 @@ loop-less c = search scan
 loop-again : tie.Need-loop-again Inv-loop μ-loop
 loop-again c =
     let d = c .before .before .before in
-    let e = d .before .before in
+    let e = d .before in
     let at = e .before .before in
     let m : at .before .before .terms .result < 256 = omega arith in
-    let h : d .before .wide .result < 256 = omega arith in
-    (search scan, record-chained _ (at .before .loop .inv .1) (at .loop-test .taken) m (e .before .term-at .ensures) (d .before .wide .ensures) (e .second-part .ensures) (d .wide2 .ensures) h)
+    (search scan, record-chained _ (at .before .loop .inv .1) (at .loop-test .taken) m (e .before .term-at .ensures) (e .chain-of .ensures) (d .wide .ensures))
 
 returns-2 : tie.Need-returns-2 Inv-loop μ-loop
 returns-2 c = search (passes-all, scan)
@@ -87,10 +82,9 @@ check-terms-spec =
     terms-requires
     loop-holds
     term-at-requires
-    second-part-requires
-    wide-requires
+    chain-of-requires
     array-read-before
-    wide-requires-2
+    wide-requires
     array-write-before
     array-write-latest
     is-term-bad-requires

@@ -2,7 +2,7 @@
 use Prim.Native.Nat.{_+_, _%_, _<_}
 use native.Mathlib.Omega.{arith}
 use borrow.Author.Needs.{needs}
-use Rattle.base.proofs.{StageLaws.bytes, Chains.walk-below}
+use Rattle.base.proofs.Chains.{walk-below}
 use Rattle.submission.proofs.TermTests.{same-record, Apart, apart-start, apart-more, apart-less, apart-hit, apart-end}
 use Rattle.submission.proofs.is_repeated.Statement.{statement}
 use Rattle.submission.proofs.is_repeated.Tie as tie
@@ -23,7 +23,7 @@ element-copy-out-j : tie.Need-element-copy-out-j Inv-loop μ-loop
 element-copy-out-j c = search needs
 
 loop-holds : tie.Need-loop-holds Inv-loop μ-loop
-loop-holds c = search (apart-start, bytes, needs)
+loop-holds c = search (apart-start, needs)
 
 is-record-requires : tie.Need-is-record-requires Inv-loop μ-loop
 is-record-requires c κs = search needs
