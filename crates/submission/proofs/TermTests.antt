@@ -4,7 +4,7 @@ use mathlib.Core.Bool.{Bool, true, false, _&&_, cond, true≢false, false≢true
 use mathlib.Core.List.{List}
 use mathlib.Core.Option.{Option, none, some}
 use mathlib.Core.Logic.{_⊎_, inl, inr, ⊎-elim, by-cases}
-use Prim.Native.Nat.{ℕ, _+_, _%_, _<_, _≤_}
+use Prim.Native.Nat.{ℕ, _+_, _*_, _%_, _<_, _≤_}
 use native.Mathlib.Nat.{le-refl, eq-or-lt-of-le}
 use native.Mathlib.Decide.{ℕ-discrete}
 use native.Mathlib.Omega.{arith}
@@ -106,7 +106,7 @@ chain-apart : (s : List ℕ) (i k : ℕ) → (chainedBy s k ≡ chainedBy s i �
 chain-apart s i k d = denies _ (says-same s i k) .1 (λ (e, (x, y)). d (rw (x, y)))
 
 -- one record more
-pub record-chained : (s : List ℕ) {before latest : List ℕ} {i w v n : ℕ} {t : Term} → Chaining (chainedBy s) i before latest → i < n → n < 256 → IsTerm s i t → v ≡ (t .x + t .y) % 256 → w ≡ i →
+pub record-chained : (s : List ℕ) {before latest : List ℕ} {i w v n : ℕ} {t : Term} → Chaining (chainedBy s) i before latest → i < n → n < 256 → IsTerm s i t → v ≡ (21 * t .x + t .y) % 256 → w ≡ i →
     Chaining (chainedBy s) (i + 1) (set before w (getD latest v 0)) (set latest v i)
 record-chained s p l m q o e = chaining-more p (omega arith) (sym (o ∙ rw (q .x, q .y))) e (omega arith)
 

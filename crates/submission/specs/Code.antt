@@ -103,9 +103,9 @@ pub record ReadingIs (s : List ℕ) (d : Check) (r : Reading) : Type 0 where
   pub answer : readingCheck r ≡ d
   pub claim : (c : Claim) → r ≡ Good c → IsClaim s c
 
--- the byte by which records are chained: the sum of x and y; equal records have the same
+-- the byte by which records are chained, made of x and y; equal records have the same
 abbrev pub chainedBy : List ℕ → ℕ → ℕ
-chainedBy s i = (xAt s i + yAt s i) % 256
+chainedBy s i = (21 * xAt s i + yAt s i) % 256
 
 -- what the limits say of the counts that programs and registers are made of
 pub record Limited (s : List ℕ) : Type 0 where
