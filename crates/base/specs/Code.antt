@@ -14,6 +14,12 @@ abbrev pub isSome : Option ℕ → Bool
 isSome none = false
 isSome (some i) = true
 
+-- ---- notes: 1 stands in l at f r for each r below i, and nowhere else
+pub record Noted (f : ℕ → ℕ) (i : ℕ) (l : List ℕ) : Type 0 where
+  pub long : length l ≡ 256
+  pub holds : (r : ℕ) → r < i → getD l (f r) 0 ≡ 1
+  pub only : (n : ℕ) → getD l n 0 ≡ 1 → (r : ℕ) × (r < i) × (f r ≡ n)
+
 -- ---- chains: c has for each number the byte that it is chained by, or 256 or more where it is in no chain
 -- b is the latest of the first i numbers that is chained by y, and 255 stands for none
 pub record Latest (c : ℕ → ℕ) (i y b : ℕ) : Type 0 where

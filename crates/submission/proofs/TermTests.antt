@@ -1,4 +1,4 @@
--- Check 3, one test at a time: the shape of a record, read off its kind and its parts, and a record that is repeated.
+-- Checks 3 and 4, one test at a time: the shape of a record, read off its kind and its parts, a record that is repeated, and an entry.
 use mathlib.Core.Path.{_≡_, refl, sym, ap, _∙_}
 use mathlib.Core.Bool.{Bool, true, false, _&&_, cond, true≢false, false≢true, and-false}
 use mathlib.Core.List.{List}
@@ -13,20 +13,21 @@ use lib.ListN.{length, getD, set, replicate, length-set, length-replicate, getD-
 use lib.Seq.{getD-set-same, getD-set-other}
 use borrow.Author.Count.{below-more}
 use borrow.Author.Tests.{eq-eqb, ne-eqb, lt-ltb, le-ltb}
-use Rattle.base.specs.{Computed.any, Code.isSome, Code.Chained, Code.Chaining}
+use Rattle.base.specs.{Computed.any, Code.isSome, Code.Noted, Code.Chained, Code.Chaining}
 use Rattle.base.proofs.Chains.{Walk, chaining-more, walk-start, walk-end, walk-below, walk-more, walk-less}
 use Rattle.base.proofs.Order.{lt-or-ge}
 use Rattle.base.proofs.First.{first-found}
 use Rattle.base.proofs.Scan.{false-any}
 use Rattle.base.proofs.Says.{denies}
+use Rattle.base.proofs.Stores.{noted-any}
 use Rattle.term.specs.Term.{Shape, atomic, compound}
 use Rattle.term.specs.Number.{shapeOf}
 use Rattle.term.specs.Code.{isUnary, secondOf}
 use Rattle.submission.specs.declared.Term.{Term}
-use Rattle.submission.specs.Record.{kindAt, xAt, yAt}
+use Rattle.submission.specs.Record.{terms, kindAt, xAt, yAt, entryAt}
 use Rattle.term.specs.Computed.{takes, isAtomic}
 use Rattle.submission.specs.Code.{IsTerm, chainedBy}
-use Rattle.submission.specs.Computed.{shapeFits, sameRecord}
+use Rattle.submission.specs.Computed.{shapeFits, sameRecord, badKnowledge}
 use Rattle.submission.proofs.theory.GoodRecord.{says-same}
 
 -- ---- the shape of a record
@@ -134,3 +135,13 @@ module _ (s : List ℕ) (i : ℕ) {j : ℕ} (p : Apart s i j) where
 
     pub apart-less : i < 256 → (getD before w 0 + 1) % 256 < (j + 1) % 256
     apart-less m = walk-less p d q (omega arith) e m
+
+-- ---- an entry of the knowledge
+module _ (s : List ℕ) (i : ℕ) {t n : ℕ} (e : t ≡ entryAt s i) (f : n ≡ terms s) where
+  pub entry-seen : {seen : List ℕ} {w : ℕ} → Noted (entryAt s) i seen → t < n → w ≡ t → eqb (getD seen w 0) 1 ≡ badKnowledge s i
+  unfolding badKnowledge
+  entry-seen p l g = let b : ltb (entryAt s i) (terms s) ≡ true = lt-ltb (entryAt s i) (terms s) (omega arith) in rw b (noted-any p (g ∙ e))
+
+  pub entry-high : n ≤ t → true ≡ badKnowledge s i
+  unfolding badKnowledge
+  entry-high l = let b : ltb (entryAt s i) (terms s) ≡ false = le-ltb (entryAt s i) (terms s) (omega arith) in rw b

@@ -18,7 +18,7 @@ ghost use Rattle.submission.specs.Record.{letter, count as countIn, star
 ghost use Rattle.submission.specs.Computed.{areInverse, badContents, checkLimits, inRange, claimFits, shapeFits, sameRecord, badTerm, badKnowledge, goodClaim, checks1to4, checks1to5};
 ghost use Rattle.submission.specs.Check.{wayOf, row};
 ghost use Rattle.base.specs.Computed.{any, failsAt, failsIf};
-ghost use Rattle.base.specs.Code.{checkOf, Chained};
+ghost use Rattle.base.specs.Code.{checkOf, Noted, Chained};
 ghost use Rattle.submission.specs.Code.{Starts, IsTerm, wayIs, letterIs, rangeIs, rowIs, IsClaimBytes, IsClaim, readingCheck, ReadingIs, chainedBy};
 
 // Where the first body starts.
@@ -349,26 +349,14 @@ pub fn check_terms(s: &[u8]) -> Stage
 
 // ---- Check 4, knowledge.
 
-// Whether an earlier entry of the knowledge equals entry i.
-fn is_entry_repeated(s: &[u8], i: u8) -> bool
-    ensures { λ r. ⌜ r ≡ any (λ j. eqb (entryAt (now (s .entry)) j) (entryAt (now (s .entry)) i)) i ⌝ }
-{
-    let t = entry_at(s, i);
-    let mut k: u8 = 0;
-    while k < i {
-        if entry_at(s, k) == t {
-            return true;
-        }
-        k += 1;
-    }
-    false
-}
-
-fn is_entry_bad(s: &[u8], i: u8) -> bool
+// Whether entry i is no term, or equals an earlier one: `seen` has 1 at the terms of these.
+fn is_entry_bad(s: &[u8], seen: &[u8; 256], i: u8) -> bool
+    requires { ⌜ Noted (entryAt (now s)) i (now seen) ⌝ }
     ensures { λ r. ⌜ r ≡ badKnowledge (now (s .entry)) i ⌝ }
 {
-    if entry_at(s, i) < terms(s) {
-        return is_entry_repeated(s, i);
+    let t = entry_at(s, i);
+    if t < terms(s) {
+        return seen[wide(t)] == 1;
     }
     true
 }
@@ -377,14 +365,16 @@ pub fn check_knowledge(s: &[u8]) -> Stage
     ensures { λ r. ⌜ checkOf r ≡ failsAt 4 (first (badKnowledge (now (s .entry))) (entryCount (now (s .entry)))) ⌝ }
 {
     let n = entries(s);
+    let mut seen = [0u8; 256];
     let mut i: u8 = 0;
     while i < n {
-        if is_entry_bad(s, i) {
+        if is_entry_bad(s, &seen, i) {
             return Stage::Refused {
                 number: 4,
                 place: wide16(i),
             };
         }
+        seen[wide(entry_at(s, i))] = 1;
         i += 1;
     }
     Stage::Passed

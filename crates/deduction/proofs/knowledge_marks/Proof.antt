@@ -1,13 +1,16 @@
 -- `knowledge_marks` meets its contract: the terms of the first i entries are marked.
-use Prim.Native.Nat.{_-_, _<_}
+use Prim.Native.Nat.{_-_, _≤_, _<_}
 use native.Mathlib.Omega.{arith}
 use borrow.Author.Needs.{needs}
-use Rattle.deduction.proofs.KnowledgeMarks.{Entered, entered-none, entered-more, entered-all}
+use Rattle.base.specs.Code.{Noted}
+use Rattle.base.proofs.Stores.{noted-none, noted-more}
+use Rattle.submission.specs.Record.{entries, entryAt}
+use Rattle.deduction.proofs.KnowledgeMarks.{entered-all}
 use Rattle.deduction.proofs.knowledge_marks.Statement.{statement}
 use Rattle.deduction.proofs.knowledge_marks.Tie as tie
 
 abbrev Inv-loop : tie.InvT-loop
-Inv-loop s m₀ n i₀ m i = Entered s i (m .state)
+Inv-loop s m₀ n i₀ m i = (i ≤ entries s) × Noted (entryAt s) i (m .state)
 
 abbrev μ-loop : tie.MeasureT-loop
 μ-loop s m₀ n i₀ m i = n - i
@@ -16,7 +19,7 @@ entries-requires : tie.Need-entries-requires Inv-loop μ-loop
 entries-requires c κs = search needs
 
 loop-holds : tie.Need-loop-holds Inv-loop μ-loop
-loop-holds c = search (entered-none, needs)
+loop-holds c = (omega arith, noted-none)
 
 entry-at-requires : tie.Need-entry-at-requires Inv-loop μ-loop
 entry-at-requires c κs = search needs
@@ -34,7 +37,7 @@ loop-less : tie.Need-loop-less Inv-loop μ-loop
 loop-less c = search needs
 
 loop-again : tie.Need-loop-again Inv-loop μ-loop
-loop-again c = let h : c .wide .result < 256 = omega arith in search (entered-more, needs)
+loop-again c = let h : c .wide .result < 256 = omega arith in (omega arith, search (noted-more, needs))
 
 returns : tie.Need-returns Inv-loop μ-loop
 returns c = search (entered-all, needs)

@@ -1,23 +1,26 @@
--- `check_knowledge` meets its contract: the entries before i are good.
-use Prim.Native.Nat.{_-_}
+-- `check_knowledge` meets its contract: the entries before i are good, and noted.
+use Prim.Native.Nat.{_-_, _<_}
+use native.Mathlib.Omega.{arith}
+use Rattle.base.specs.Code.{Noted}
 use Rattle.base.proofs.Scan.{scan}
-use Rattle.base.proofs.First.{Passed}
+use Rattle.base.proofs.First.{Passed, passed-none}
 use Rattle.base.proofs.StageLaws.{fails-hit, passes-all}
-use Rattle.submission.specs.Computed.{badKnowledge}
+use Rattle.base.proofs.Stores.{noted-none, noted-more}
+use Rattle.submission.specs.{Record.entryAt, Computed.badKnowledge}
 use Rattle.submission.proofs.check_knowledge.Statement.{statement}
 use Rattle.submission.proofs.check_knowledge.Tie as tie
 
 abbrev Inv-loop : tie.InvT-loop
-Inv-loop s n i₀ i = Passed (badKnowledge s) n i
+Inv-loop s n seen₀ i₀ seen i = Passed (badKnowledge s) n i × Noted (entryAt s) i seen
 
 abbrev μ-loop : tie.MeasureT-loop
-μ-loop s n i₀ i = n - i
+μ-loop s n seen₀ i₀ seen i = n - i
 
 entries-requires : tie.Need-entries-requires Inv-loop μ-loop
 entries-requires c κs = search scan
 
 loop-holds : tie.Need-loop-holds Inv-loop μ-loop
-loop-holds c = search scan
+loop-holds c = (passed-none, noted-none)
 
 is-entry-bad-requires : tie.Need-is-entry-bad-requires Inv-loop μ-loop
 is-entry-bad-requires c κs = search scan
@@ -28,6 +31,15 @@ wide16-requires c κs = search scan
 returns : tie.Need-returns Inv-loop μ-loop
 returns c = search (fails-hit, scan)
 
+entry-at-requires : tie.Need-entry-at-requires Inv-loop μ-loop
+entry-at-requires c κs = search scan
+
+wide-requires : tie.Need-wide-requires Inv-loop μ-loop
+wide-requires c κs = search scan
+
+array-write-seen : tie.Need-array-write-seen Inv-loop μ-loop
+array-write-seen c = search scan
+
 add-i : tie.Need-add-i Inv-loop μ-loop
 add-i c = search scan
 
@@ -35,7 +47,7 @@ loop-less : tie.Need-loop-less Inv-loop μ-loop
 loop-less c = search scan
 
 loop-again : tie.Need-loop-again Inv-loop μ-loop
-loop-again c = search scan
+loop-again c = let h : c .wide .result < 256 = omega arith in (search scan, search (noted-more, scan))
 
 returns-2 : tie.Need-returns-2 Inv-loop μ-loop
 returns-2 c = search (passes-all, scan)
@@ -51,6 +63,9 @@ check-knowledge-spec =
     is-entry-bad-requires
     wide16-requires
     returns
+    entry-at-requires
+    wide-requires
+    array-write-seen
     add-i
     loop-less
     loop-again
