@@ -1,5 +1,5 @@
 -- Chains of numbers in two arrays: how they grow by one number, and what a walk along one of them has seen.
-use mathlib.Core.Path.{_≡_, refl, sym, ap, _∙_}
+use mathlib.Core.Path.{_≡_, sym, _∙_}
 use mathlib.Core.List.{List}
 use mathlib.Core.Logic.{_⊎_, inl, inr, ⊎-elim, by-cases}
 use Prim.Native.Nat.{ℕ, _+_, _%_, _<_, _≤_}

@@ -4,8 +4,8 @@ use mathlib.Core.List.{List, [], _∷_}
 use Prim.Native.Nat.{ℕ, zero, suc, _+_, _-_, _≤_, _<_}
 use native.Mathlib.Nat.{add-zero, add-suc, zero-add}
 use native.Mathlib.Omega.{arith}
-use lib.ListN.{length, getD, length-append, List·getD-append}
-use lib.Seq.{getD-append-seam}
+use lib.ListN.{length, getD, take, length-append, List·getD-append}
+use lib.Seq.{getD-append-seam, take-suc}
 use Rattle.base.specs.Words.{grow, listed}
 
 module _ {A : Type 0} (s : List A) (f : List A → ℕ → A) where
@@ -44,3 +44,9 @@ pub grow-alike : {A : Type 0} (s : List A) (f g : List A → ℕ → A) (n : ℕ
 unfolding grow
 grow-alike s f g zero h = refl
 grow-alike s f g (suc n) h = rw (grow-alike s f g n (λ i l b. h i l (omega arith)), h n (grow s g n) (omega arith))
+
+-- the first entries of a list, one by one
+pub listed-taken : (f : ℕ → ℕ) (l : List ℕ) (n : ℕ) → n ≤ length l → ((i : ℕ) → i < n → getD l i 0 ≡ f i) → take n l ≡ listed f n
+unfolding grow
+listed-taken f l zero b h = refl
+listed-taken f l (suc n) b h = take-suc l n 0 (omega arith) ∙ rw (listed-taken f l n (omega arith) (λ i m. h i (omega arith)), h n (omega arith))

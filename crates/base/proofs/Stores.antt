@@ -9,7 +9,7 @@ use lib.ListN.{length, getD, set, replicate, length-set, length-replicate}
 use lib.Seq.{getD-set-same, getD-set-other}
 use borrow.Author.Count.{below-more}
 use Rattle.base.specs.{Code.Noted, Computed.any}
-use Rattle.base.proofs.Says.{Says, says-eqb, says-any, same-test}
+use Rattle.base.proofs.Says.{says-eqb, says-any, same-test}
 
 pub set-here : (l : List ℕ) (t v : ℕ) → t < length l → getD (set l t v) t 0 ≡ v
 set-here l t v b = getD-set-same l t v 0 b

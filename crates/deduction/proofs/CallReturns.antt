@@ -62,9 +62,6 @@ module _ {s : List ℕ} (start : List ℕ) (v : TableRead s) (m : SameMarks s (m
   both-known {p} {q} b c e = e ∙ ap₂ _&&_ (same-start (facts v) m p b) (same-start (facts v) m q c)
 
 -- ---- the call
-pub read : {s : List ℕ} {st : Stage} → Bytes s → checkOf st ≡ checks1to4 s → st ≡ Passed → TableRead s
-read b e p = record { bytes = b; passed = sym e ∙ ap checkOf p }
-
 module _ (s : List ℕ) {st : Stage} (e : checkOf st ≡ checks1to4 s) where
   pub check-refused : (t : ℕ) {m k : ℕ} (r : Answer) → st ≡ Refused m k → answerOf r ≡ answered (checkOf st) (done 0) → answerOf r ≡ deducibleAnswer s t
   unfolding deducibleAnswer

@@ -1,12 +1,11 @@
 -- Clauses: the returns of `clause_of`, the chains of the records that wait for a term, and that what a clause gives is deducible.
 use mathlib.Core.Path.{_≡_, refl, sym, ap, _∙_, subst}
-use mathlib.Core.Logic.{_⊎_, inl, inr, ⊎-elim}
-use mathlib.Core.Bool.{Bool, true, false, _&&_, _||_}
+use mathlib.Core.Bool.{Bool, true, false}
 use mathlib.Core.List.{List}
 use Prim.Native.Nat.{ℕ, _+_, _<_, _≤_}
 use native.Mathlib.Omega.{arith}
 use lib.Dec.{eqb}
-use lib.ListN.{length, getD, set, replicate}
+use lib.ListN.{getD, set, replicate}
 use borrow.Author.Tests.{eq-eqb}
 use Rattle.base.specs.Code.{Chaining}
 use Rattle.base.proofs.BoolLaws.{or-left, or-right, and-both}

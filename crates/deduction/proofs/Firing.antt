@@ -1,20 +1,18 @@
 -- Clauses that fire: the returns and loops of `fire_one`, `fire`, `take_apart`, `open_all` and `compose_all`.
-use mathlib.Core.Path.{_≡_, refl, sym, ap, _∙_, subst}
+use mathlib.Core.Path.{_≡_, sym, ap, _∙_, subst}
 use mathlib.Core.Logic.{_⊎_, inl, inr, ⊎-elim, by-cases}
-use mathlib.Core.Bool.{true}
 use mathlib.Core.List.{List}
 use Prim.Native.Nat.{ℕ, _+_, _-_, _%_, _≤_, _<_}
 use native.Mathlib.Decide.{ℕ-discrete}
 use native.Mathlib.Omega.{arith}
 use lib.ListN.{getD}
-use Rattle.base.specs.Code.{Chained, Chaining}
+use Rattle.base.specs.Code.{Chaining}
 use Rattle.base.proofs.Chains.{Walk, walk-start, walk-end, walk-weaker, walk-below, walk-chain, walk-more, walk-less}
 use Rattle.term.specs.Step.{Deducible}
-use Rattle.term.proofs.Reach.{known, reach-part, reach-iff}
+use Rattle.term.proofs.Reach.{reach-iff}
 use Rattle.submission.specs.Code.{TableRead}
-use Rattle.submission.specs.Record.{terms, recordAt, term}
+use Rattle.submission.specs.Record.{terms, term}
 use Rattle.submission.proofs.theory.ListedTerms.{facts}
-use Rattle.deduction.specs.declared.Parts.the-variants.{Both}
 use Rattle.deduction.specs.declared.Opening.{Opening}
 use Rattle.deduction.specs.declared.Opening.the-variants.{Freely, With, Shut}
 use Rattle.deduction.specs.declared.Role.{Role}
@@ -22,7 +20,7 @@ use Rattle.deduction.specs.declared.Role.the-variants.{Key, First, Secon
 use Rattle.deduction.specs.declared.Clause.{Clause}
 use Rattle.deduction.specs.declared.Clause.the-variants.{Absent, From}
 use Rattle.deduction.specs.Computed.{Marked}
-use Rattle.deduction.specs.Code.{marksOf, partsOf, openingOf, clauseOf, awaited, linked, Pushed, PushedWith, Among, Queue, SoundMarks, Grown, Ready, FiredOne, Fired, TakenApart, OpenTo, Composed, ComposedTo}
+use Rattle.deduction.specs.Code.{marksOf, openingOf, clauseOf, awaited, linked, Pushed, PushedWith, Among, Queue, Grown, Ready, FiredOne, Fired, TakenApart, OpenTo, Composed, ComposedTo}
 use Rattle.deduction.proofs.MarkArrays.{says-mark}
 use Rattle.deduction.proofs.Clauses.{key-clause, first-clause, second-clause, clause-listed, clause-reached, opening-reached, freely-reached}
 use Rattle.deduction.proofs.RecordOpening.{freely-listed, with-listed}

@@ -1,9 +1,8 @@
 -- The loop of `knowledge_marks`: after all entries the marks are those of the knowledge.
-use mathlib.Core.Path.{_≡_, ap, _∙_}
+use mathlib.Core.Path.{_≡_}
 use mathlib.Core.List.{List}
 use Prim.Native.Nat.{ℕ, _≤_}
 use native.Mathlib.Omega.{arith}
-use lib.ListN.{getD}
 use Rattle.base.specs.Code.{Noted}
 use Rattle.base.proofs.Says.{same-test}
 use Rattle.submission.specs.Record.{entries, entryAt}

@@ -1,7 +1,6 @@
 -- What opens a record: the returns of `opening_of`, and what an opening gives.
-use mathlib.Core.Path.{_≡_, refl, sym, ap, _∙_, subst}
-use mathlib.Core.Logic.{_⊎_, ⊎-elim}
-use mathlib.Core.Bool.{Bool, true, false, _&&_, _||_, cond, false≢true, true≢false}
+use mathlib.Core.Path.{_≡_, refl, sym, ap, _∙_}
+use mathlib.Core.Bool.{Bool, true, false, _&&_, _||_, cond}
 use mathlib.Core.List.{List}
 use mathlib.Core.Option.{some}
 use Prim.Native.Nat.{ℕ, _<_}
@@ -9,7 +8,7 @@ use lib.Dec.{eqb}
 use lib.ListN.{getD}
 use borrow.Author.Tests.{ne-eqb, eqb-true, eqb-false}
 use Rattle.base.proofs.BoolLaws.{and-right}
-use Rattle.term.specs.Term.{symmetric, asymmetric, Form, pair, hash, encryption, Head, make, part, decrypt, Shape, atomic, compound, Rec, leaf, branch}
+use Rattle.term.specs.Term.{symmetric, asymmetric, Form, pair, hash, encryption, make, part, decrypt, Shape, atomic, compound, Rec, leaf, branch}
 use Rattle.term.specs.{Number.shapeOf, Computed.kindOf}
 use Rattle.term.proofs.Kind.{shape-kind, kind-shape}
 use Rattle.term.proofs.Table.{part-below}

@@ -13,7 +13,7 @@ use Rattle.deduction.specs.declared.Role.{Role}
 use Rattle.deduction.specs.declared.Role.the-variants.{Key, First, Second}
 use Rattle.deduction.specs.declared.Clause.{Clause}
 use Rattle.deduction.specs.declared.Clause.the-variants.{Absent, From}
-use Rattle.deduction.specs.Computed.{at, built, gives, isDeducible, Marked}
+use Rattle.deduction.specs.Computed.{at, built, isDeducible, Marked}
 
 -- a term is marked by 1
 abbrev pub marksOf : List ℕ → List Bool

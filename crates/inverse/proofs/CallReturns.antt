@@ -11,21 +11,12 @@ use Rattle.base.specs.declared.Answer.the-variants as given
 use Rattle.base.specs.declared.Stage.{Stage}
 use Rattle.base.specs.declared.Stage.the-variants as stage
 use Rattle.base.specs.{Words.Bytes, Words.grow, Words.listed, Answer.done, Answer.answerOf, Answer.Puts, Code.checkOf, Computed.answered}
-use Rattle.base.proofs.{Grow.length-listed, PutLaws.puts-front}
+use Rattle.base.proofs.{Grow.length-listed, Grow.listed-taken, PutLaws.puts-front}
 use Rattle.submission.specs.{Record.terms, Computed.checks1to4, Code.TableRead}
 use Rattle.submission.proofs.theory.ListedTerms.{facts}
 use Rattle.inverse.specs.{Computed.inverseOf, Computed.inversesOf, Computed.inversesAnswer, Code.Inverses, Calls.InversesWritten}
 
--- the first entries of a list, one by one
-listed-taken : (f : ℕ → ℕ) (l : List ℕ) (n : ℕ) → n ≤ length l → ((i : ℕ) → i < n → getD l i 0 ≡ f i) → take n l ≡ listed f n
-unfolding grow
-listed-taken f l zero b h = refl
-listed-taken f l (suc n) b h = take-suc l n 0 (omega arith) ∙ rw (listed-taken f l n (omega arith) (λ i m. h i (omega arith)), h n (omega arith))
-
 module _ (s : List ℕ) where
-  pub read : {st : Stage} → Bytes s → checkOf st ≡ checks1to4 s → st ≡ stage.Passed → TableRead s
-  read b e p = record { bytes = b; passed = sym e ∙ ap checkOf p }
-
   pub check-refused : (page : List ℕ) {st : Stage} (r : AnswerGiven) {m k : ℕ} → checkOf st ≡ checks1to4 s → st ≡ stage.Refused m k →
       answerOf r ≡ answered (checkOf st) (done 0) → InversesWritten s page r page
   unfolding inversesAnswer

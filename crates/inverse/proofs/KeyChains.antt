@@ -12,7 +12,7 @@ use lib.ListN.{getD, set}
 use borrow.Author.Tests.{eq-eqb, ne-eqb}
 use Rattle.base.specs.{Words.Bytes, Code.Chained, Code.Chaining}
 use Rattle.base.proofs.Chains.{Walk, chaining-apart, chaining-more, walk-start, walk-end, walk-below, walk-chain, walk-more, walk-less}
-use Rattle.base.proofs.Says.{says-and, says-or, says-eqb, says-true, denies, not-not-false}
+use Rattle.base.proofs.Says.{says-and, says-or, says-eqb, says-true, denies, not-is-true, not-not-false}
 use Rattle.term.specs.{Term.asymmetric, Term.isKeyFor, Number.shapeOf, Computed.inverseKinds}
 use Rattle.term.proofs.Kind.{no-inverse}
 use Rattle.submission.specs.declared.Term.{Term}
@@ -50,10 +50,6 @@ chain-y s n l = go (isKeyFor asymmetric (shapeOf (kindAt s n))) l
     go true m = refl
     go false m = absurd (omega arith)
 
-not-true : (b : Bool) → not b ≡ true → b ≡ false
-not-true true e = absurd (false≢true e)
-not-true false e = refl
-
 -- term k is t, and b says whether it is a key
 module _ {s : List ℕ} {k : ℕ} {t : Term} (p : IsTerm s k t) {b : Bool} (e : b ≡ isKeyFor asymmetric (shapeOf (t .kind))) where
   key-is : (r : Bool) → b ≡ r → isKeyFor asymmetric (shapeOf (kindAt s k)) ≡ r
@@ -64,7 +60,7 @@ module _ {s : List ℕ} {k : ℕ} {t : Term} (p : IsTerm s k t) {b : Bool} (e : 
 
   -- one term more
   pub no-key-chained : {before latest : List ℕ} → not b ≡ true → Chaining (keyChain s) k before latest → Chaining (keyChain s) (k + 1) before latest
-  no-key-chained h c = chaining-apart c (rw (key-is false (not-true b h)) (le-refl 256))
+  no-key-chained h c = chaining-apart c (rw (key-is false (not-is-true b .0 h)) (le-refl 256))
 
   pub key-chained : {before latest : List ℕ} {v w : ℕ} → not b ≡ false → Bytes s → Chaining (keyChain s) k before latest → k < 255 → v ≡ t .y → w ≡ k →
       Chaining (keyChain s) (k + 1) (set before w (getD latest v 0)) (set latest v k)
@@ -73,7 +69,7 @@ module _ {s : List ℕ} {k : ℕ} {t : Term} (p : IsTerm s k t) {b : Bool} (e : 
   -- what is no key has no inverse
   pub no-key-among : not b ≡ true → InverseAmong s k k 255
   unfolding areInverse
-  no-key-among h = record { is = inl refl; none = λ _ j l. rw (no-inverse (kindAt s k) (kindAt s j) (key-is false (not-true b h))) }
+  no-key-among h = record { is = inl refl; none = λ _ j l. rw (no-inverse (kindAt s k) (kindAt s j) (key-is false (not-is-true b .0 h))) }
 
 -- ---- the walk along the chain of key k: those that it has seen are not the inverse
 abbrev pub Missed : List ℕ → ℕ → ℕ → Type 0

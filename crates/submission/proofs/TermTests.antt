@@ -1,21 +1,18 @@
 -- Checks 3 and 4, one test at a time: the shape of a record, read off its kind and its parts, a record that is repeated, and an entry.
 use mathlib.Core.Path.{_≡_, refl, sym, ap, _∙_}
-use mathlib.Core.Bool.{Bool, true, false, _&&_, cond, true≢false, false≢true, and-false}
+use mathlib.Core.Bool.{Bool, true, false, _&&_, true≢false, false≢true, and-false}
 use mathlib.Core.List.{List}
 use mathlib.Core.Option.{Option, none, some}
-use mathlib.Core.Logic.{_⊎_, inl, inr, ⊎-elim, by-cases}
+use mathlib.Core.Logic.{by-cases}
 use Prim.Native.Nat.{ℕ, _+_, _*_, _%_, _<_, _≤_}
-use native.Mathlib.Nat.{le-refl, eq-or-lt-of-le}
+use native.Mathlib.Nat.{le-refl}
 use native.Mathlib.Decide.{ℕ-discrete}
 use native.Mathlib.Omega.{arith}
 use lib.Dec.{eqb, ltb}
-use lib.ListN.{length, getD, set, replicate, length-set, length-replicate, getD-replicate}
-use lib.Seq.{getD-set-same, getD-set-other}
-use borrow.Author.Count.{below-more}
+use lib.ListN.{getD, set}
 use borrow.Author.Tests.{eq-eqb, ne-eqb, lt-ltb, le-ltb}
 use Rattle.base.specs.{Computed.any, Code.isSome, Code.Noted, Code.Chained, Code.Chaining}
 use Rattle.base.proofs.Chains.{Walk, chaining-more, walk-start, walk-end, walk-below, walk-more, walk-less}
-use Rattle.base.proofs.Order.{lt-or-ge}
 use Rattle.base.proofs.First.{first-found}
 use Rattle.base.proofs.Scan.{false-any}
 use Rattle.base.proofs.Says.{denies}

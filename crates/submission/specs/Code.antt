@@ -1,7 +1,6 @@
 -- What the code's records mean in document 01's terms.
-use mathlib.Core.{Path._≡_, Bool.cond, List.List, Option.Option, Option.none, Option.some}
-use Prim.Native.Nat.{ℕ, _+_, _*_, _%_, _≤_, _<_}
-use lib.ListN.{length, getD}
+use mathlib.Core.{Path._≡_, List.List, Option.Option, Option.none, Option.some}
+use Prim.Native.Nat.{ℕ, _+_, _*_, _%_, _≤_}
 use Rattle.submission.specs.declared.Term.{Term}
 use Rattle.submission.specs.declared.Claim.{Claim}
 use Rattle.submission.specs.declared.ClaimBytes.{ClaimBytes}
@@ -18,8 +17,7 @@ use Rattle.submission.specs.declared.Reading.{Reading}
 use Rattle.submission.specs.declared.Reading.the-variants.{Good, Refused}
 use Rattle.submission.specs.{Check.Way, Check.another-step, Check.at-start, Check.inverse-key, Check.wayOf, Check.Range, Check.step-number, Check.term-number, Check.zero-only, Check.Operand, Check.verifying-result, Check.companion-result, Check.lowest-conclusion, Check.lowest-companion, Check.Row, Record.start, Record.count, Record.terms, Record.kindAt, Record.xAt, Record.yAt, Record.guess, Record.verifying, Record.wayAt, Record.companion, Record.InKnowledge, Computed.checks1to4, Computed.checks1to5}
 use Rattle.term.specs.Term as words
-use Rattle.term.specs.Code.{relationIs, isUnary}
-use Rattle.term.specs.Number.{shapeOf}
+use Rattle.term.specs.Code.{relationIs}
 use Rattle.base.specs.{Words.Bytes, Computed.Check, Computed.passes, Computed.fails}
 
 -- r is where body i starts; a body has at most 255 records of at most 4 bytes

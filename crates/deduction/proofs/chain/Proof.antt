@@ -2,7 +2,6 @@
 use Prim.Native.Nat.{_-_, _≤_}
 use native.Mathlib.Omega.{arith}
 use Rattle.base.specs.Code.{Chaining}
-use Rattle.base.proofs.Chains.{chaining-none}
 use Rattle.submission.specs.Record.{terms}
 use Rattle.deduction.specs.Code.{linked}
 use Rattle.deduction.proofs.Clauses.{linked-start, linked-more, linked-end}

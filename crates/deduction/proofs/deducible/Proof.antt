@@ -1,7 +1,8 @@
 -- `deducible` meets its contract: each stage of the call gives its answer.
 use native.Mathlib.Omega.{arith}
 use Rattle.base.proofs.StageLaws.{bytes}
-use Rattle.deduction.proofs.CallReturns.{read, check-refused, no-term, answer-yes, answer-no}
+use Rattle.submission.proofs.PassedChecks.{table-read}
+use Rattle.deduction.proofs.CallReturns.{check-refused, no-term, answer-yes, answer-no}
 use borrow.Author.Needs.{needs}
 use Rattle.deduction.proofs.deducible.Statement.{statement}
 use Rattle.deduction.proofs.deducible.Tie as tie
@@ -28,7 +29,7 @@ returns-2 : tie.Need-returns-2
 returns-2 c = search (no-term, needs)
 
 is-deducible-requires : tie.Need-is-deducible-requires
-is-deducible-requires c κs = (search (read, bytes, needs), omega arith)
+is-deducible-requires c κs = (search (table-read, bytes, needs), omega arith)
 
 returns-3 : tie.Need-returns-3
 returns-3 c = search (answer-yes, needs)

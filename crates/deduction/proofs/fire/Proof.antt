@@ -1,6 +1,5 @@
 -- `fire` meets its contract: the walk along the records that wait for u.
-use Prim.Native.Nat.{_+_, _%_, _<_}
-use native.Mathlib.Omega.{arith}
+use Prim.Native.Nat.{_+_, _%_}
 use Rattle.deduction.proofs.Firing.{Firing, firing-start, firing-below, firing-byte, firing-ready, firing-more, firing-less, firing-end}
 use borrow.Author.Needs.{needs}
 use Rattle.deduction.proofs.fire.Statement.{statement}

@@ -1,6 +1,7 @@
 -- `inverses` meets its contract: checks 1 to 4, then the page.
 use Rattle.base.proofs.StageLaws.{bytes}
-use Rattle.inverse.proofs.CallReturns.{read, check-refused}
+use Rattle.submission.proofs.PassedChecks.{table-read}
+use Rattle.inverse.proofs.CallReturns.{check-refused}
 use borrow.Author.Needs.{needs}
 use Rattle.inverse.proofs.inverses.Statement.{statement}
 use Rattle.inverse.proofs.inverses.Tie as tie
@@ -21,7 +22,7 @@ returns : tie.Need-returns
 returns c = search (check-refused, needs)
 
 write-found-requires : tie.Need-write-found-requires
-write-found-requires c κs = search (read, bytes, needs)
+write-found-requires c κs = search (table-read, bytes, needs)
 
 same-length : tie.Need-same-length
 same-length c = search needs
