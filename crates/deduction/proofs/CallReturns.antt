@@ -1,6 +1,6 @@
 -- The answers: the returns of `are_built`, `are_deducible` and `is_deducible`, and those of `deducible`: a check's refusal, no such term,
 -- yes and no.
-use mathlib.Core.Path.{_≡_, refl, sym, ap, ap₂, _∙_}
+use mathlib.Core.Path.{_≡_, refl, sym, ap₂, _∙_}
 use mathlib.Core.Bool.{Bool, true, false, _&&_, and-false}
 use mathlib.Core.List.{List}
 use Prim.Native.Nat.{ℕ, _<_, _≤_}
@@ -11,7 +11,6 @@ use borrow.Author.Tests.{eq-eqb, ne-eqb, lt-ltb, le-ltb}
 use Rattle.base.specs.declared.Stage.{Stage}
 use Rattle.base.specs.declared.Stage.the-variants.{Passed, Refused}
 use Rattle.base.specs.Answer.{done, refused, answerOf}
-use Rattle.base.specs.Words.{Bytes}
 use Rattle.submission.specs.Record.{terms}
 use Rattle.base.specs.Code.{checkOf}
 use Rattle.base.specs.Computed.{answered}

@@ -1,16 +1,16 @@
 -- The returns of the call: a check's refusal, a page that is too short, and the bytes on the page.
-use mathlib.Core.Path.{_≡_, refl, sym, ap, _∙_}
+use mathlib.Core.Path.{_≡_, sym, _∙_}
 use mathlib.Core.List.{List}
-use Prim.Native.Nat.{ℕ, zero, suc, _≤_, _<_}
+use Prim.Native.Nat.{ℕ, _≤_, _<_}
 use native.Mathlib.Omega.{arith}
-use lib.ListN.{length, getD, take}
-use lib.Seq.{take-suc, take-all, length-take-le}
+use lib.ListN.{length, take}
+use lib.Seq.{take-all, length-take-le}
 use borrow.Author.Tests.{lt-ltb, le-ltb}
 use Rattle.base.specs.declared.Answer.{Answer as AnswerGiven}
 use Rattle.base.specs.declared.Answer.the-variants as given
 use Rattle.base.specs.declared.Stage.{Stage}
 use Rattle.base.specs.declared.Stage.the-variants as stage
-use Rattle.base.specs.{Words.Bytes, Words.grow, Words.listed, Answer.done, Answer.answerOf, Answer.Puts, Code.checkOf, Computed.answered}
+use Rattle.base.specs.{Answer.done, Answer.answerOf, Answer.Puts, Code.checkOf, Computed.answered}
 use Rattle.base.proofs.{Grow.length-listed, Grow.listed-taken, PutLaws.puts-front}
 use Rattle.submission.specs.{Record.terms, Computed.checks1to4, Code.TableRead}
 use Rattle.submission.proofs.theory.ListedTerms.{facts}
