@@ -22,7 +22,7 @@ use Rattle.base.proofs.StageLaws.{bytes, stage-passes}
 use Rattle.submission.proofs.PassedChecks.{body-passes, limited}
 use Rattle.derivation.specs.declared.StepsAnswer.{StepsAnswer}
 use Rattle.derivation.specs.Step.{written}
-use Rattle.derivation.specs.Code.{Registered, StepsChecked}
+use Rattle.derivation.specs.Code.{Lowest, StepsChecked}
 use Rattle.program.specs.Program.{bytesOf, programLength}
 use Rattle.conditions.specs.declared.Verdict.{Verdict}
 use Rattle.conditions.specs.declared.Verdict.the-variants.{Accepted, Refused}
@@ -92,8 +92,8 @@ module _ (s : List ℕ) {r : Reading} (reading : ReadingIs s (checks1to5 s) r) w
           refused-out s page a b v (rw (reading-passes, said a b (each .answer) q)) (of-refusal n a b f q)
 
       module _ (passed : z .stage ≡ stage.Passed) where
-        pub steps-registered : Registered s (written s (steps s)) (z .registers)
-        steps-registered = each .registers passed
+        pub steps-lowest : Lowest s (written s (steps s)) (z .registers .first)
+        steps-lowest = each .registers passed .first
 
         pub steps-founded : ((i : ℕ) → Fits w8 (byte s i)) → Founded s
         steps-founded f = record { bytes = bytes s f; read = reading-passes; founded = stage-passes _ (each .answer) passed }
