@@ -104,15 +104,11 @@ module _ (s : List ℕ) {r : Reading} (reading : ReadingIs s (checks1to5 s) r) w
           conditions-out page n {a} {b} v q f =
               refused-out s page a b v (rw (reading-passes, stage-passes _ (each .answer) passed, said a b conditions q)) (of-refusal n a b f q)
 
-          module _ (met : t ≡ stage.Passed) where
-            met-passes : checks1to10 s ≡ passes
-            unfolding checks1to10
-            met-passes = rw (reading-passes, stage-passes _ (each .answer) passed) (stage-passes _ conditions met)
-
-            pub met-acceptable : ((i : ℕ) → Fits w8 (byte s i)) → Acceptable s
-            met-acceptable f = record { bytes = bytes s f; passed = met-passes }
-
 -- ---- a submission that passed checks 1 to 10
+pub met-acceptable : {s : List ℕ} {t : Stage} → Founded s → checkOf t ≡ checks8to10 s → t ≡ stage.Passed → Acceptable s
+unfolding checks1to10
+met-acceptable h e q = record { bytes = h .bytes; passed = rw (h .read, h .founded) (stage-passes _ e q) }
+
 module _ {s : List ℕ} (h : Acceptable s) (page : List ℕ) {u : Stage} (room : checkOf u ≡ checkRoom (programLength (steps s)) (length page)) where
   pub page-out : (n : ℕ) {a b : ℕ} (v : Verdict) → u ≡ stage.Refused a b → verdictAnswer v ≡ answered (checkOf u) (done n) → Checked s page v page
   unfolding all

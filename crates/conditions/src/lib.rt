@@ -90,10 +90,9 @@ pub fn check(s: &[u8], page: &mut [u8]) -> Verdict
     let Stage::Passed = steps else {
         return verdict_of(steps, count);
     };
-    let registers = checked.registers;
-    let met = conditions::check_conditions(s, &registers.first, claim);
+    let met = conditions::check_conditions(s, &checked.registers.first, claim);
     let Stage::Passed = met else {
         return verdict_of(met, count);
     };
-    accept(s, &registers.first, claim, page)
+    accept(s, &checked.registers.first, claim, page)
 }

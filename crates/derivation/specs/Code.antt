@@ -22,7 +22,7 @@ abbrev pub orNone : Option ℕ → ℕ
 orNone none = 255
 orNone (some q) = q
 
--- first is, by term number, the lowest of those of the first n registers that count that holds the term; 255 is the number of none
+-- first has for each term number the lowest of the first n registers that counts and holds the term, 255 for none
 pub record LowestAmong (counts : ℕ → Bool) (s : List ℕ) (n : ℕ) (first : List ℕ) : Type 0 where
   pub few : n < 256
   pub each : (t : ℕ) → t < 256 → getD first t 0 ≡ orNone (lowestAmong counts s n t)
@@ -30,7 +30,7 @@ pub record LowestAmong (counts : ℕ → Bool) (s : List ℕ) (n : ℕ) (first :
 abbrev pub Lowest : List ℕ → ℕ → List ℕ → Type 0
 Lowest s n first = LowestAmong every s n first
 
--- r is the first n registers: how many they are, and the lowest of those that count that holds each term
+-- r is the first n registers: how many they are, and the lowest for each term
 pub record RegisteredAmong (counts : ℕ → Bool) (s : List ℕ) (n : ℕ) (r : Registers) : Type 0 where
   pub used : r .used ≡ n
   pub first : LowestAmong counts s n (r .first)
@@ -43,7 +43,7 @@ pub record Unused (r : Registers) : Type 0 where
   pub used : r .used ≡ 0
   pub first : (t : ℕ) → t < 256 → getD (r .first) t 0 ≡ 255
 
--- the lowest registers once the next register q holds the term t
+-- first, once the next register q holds the term t
 unfoldable pub holding : List ℕ → ℕ → ℕ → List ℕ
 holding first t q = cond (eqb (getD first t 0) 255) (set first t q) first
 

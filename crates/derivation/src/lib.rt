@@ -180,7 +180,7 @@ pub fn initial(s: &[u8]) -> Registers
     r
 }
 
-// Check 7 of step i, with the lowest registers written before it: a premise is in none of them.
+// Check 7 of step i, with each term's lowest register before it: a premise has none.
 fn is_unfounded(s: &[u8], first: &[u8; 256], i: u8) -> bool
     requires { ⌜ Lowest (now s) (written (now s) i) (now first) ⌝ }
     ensures { λ r. ⌜ r ≡ unfounded (now (s .entry)) i ⌝ }

@@ -56,7 +56,7 @@ returns-3 : tie.Need-returns-3
 returns-3 c = search conditions-out
 
 accept-requires : tie.Need-accept-requires
-accept-requires c κs = (search met-acceptable, (search steps-lowest, search reading-claim))
+accept-requires c κs = (met-acceptable (search steps-founded) (c .before .before .before .before .before .check-conditions .ensures) (c .before .before .before .enum-told4 .given .1), (search steps-lowest, search reading-claim))
 
 same-length : tie.Need-same-length
 same-length c = search needs
