@@ -22,7 +22,7 @@ use Rattle.base.proofs.StageLaws.{bytes, stage-passes}
 use Rattle.submission.proofs.PassedChecks.{body-passes, limited}
 use Rattle.derivation.specs.declared.StepsAnswer.{StepsAnswer}
 use Rattle.derivation.specs.Step.{written}
-use Rattle.derivation.specs.Code.{Registered, StepsChecked}
+use Rattle.derivation.specs.Code.{Lowest, StepsChecked}
 use Rattle.program.specs.Program.{bytesOf, programLength}
 use Rattle.conditions.specs.declared.Verdict.{Verdict}
 use Rattle.conditions.specs.declared.Verdict.the-variants.{Accepted, Refused}
@@ -92,8 +92,8 @@ module _ (s : List ℕ) {r : Reading} (reading : ReadingIs s (checks1to5 s) r) w
           refused-out s page a b v (rw (reading-passes, said a b (each .answer) q)) (of-refusal n a b f q)
 
       module _ (passed : z .stage ≡ stage.Passed) where
-        pub steps-registered : Registered s (written s (steps s)) (z .registers)
-        steps-registered = each .registers passed
+        pub steps-lowest : Lowest s (written s (steps s)) (z .registers .first)
+        steps-lowest = each .registers passed .first
 
         pub steps-founded : ((i : ℕ) → Fits w8 (byte s i)) → Founded s
         steps-founded f = record { bytes = bytes s f; read = reading-passes; founded = stage-passes _ (each .answer) passed }
@@ -104,15 +104,11 @@ module _ (s : List ℕ) {r : Reading} (reading : ReadingIs s (checks1to5 s) r) w
           conditions-out page n {a} {b} v q f =
               refused-out s page a b v (rw (reading-passes, stage-passes _ (each .answer) passed, said a b conditions q)) (of-refusal n a b f q)
 
-          module _ (met : t ≡ stage.Passed) where
-            met-passes : checks1to10 s ≡ passes
-            unfolding checks1to10
-            met-passes = rw (reading-passes, stage-passes _ (each .answer) passed) (stage-passes _ conditions met)
-
-            pub met-acceptable : ((i : ℕ) → Fits w8 (byte s i)) → Acceptable s
-            met-acceptable f = record { bytes = bytes s f; passed = met-passes }
-
 -- ---- a submission that passed checks 1 to 10
+pub met-acceptable : {s : List ℕ} {t : Stage} → Founded s → checkOf t ≡ checks8to10 s → t ≡ stage.Passed → Acceptable s
+unfolding checks1to10
+met-acceptable h e q = record { bytes = h .bytes; passed = rw (h .read, h .founded) (stage-passes _ e q) }
+
 module _ {s : List ℕ} (h : Acceptable s) (page : List ℕ) {u : Stage} (room : checkOf u ≡ checkRoom (programLength (steps s)) (length page)) where
   pub page-out : (n : ℕ) {a b : ℕ} (v : Verdict) → u ≡ stage.Refused a b → verdictAnswer v ≡ answered (checkOf u) (done n) → Checked s page v page
   unfolding all

@@ -18,11 +18,10 @@ use Rattle.submission.specs.Code.{wayIs, operandIs, rowIs, IsClaim}
 use Rattle.term.specs.Code.{relationIs}
 use Rattle.program.specs.Program.{rowOf, bytesOf, programLength}
 use Rattle.derivation.specs.declared.Step.{Step}
-use Rattle.derivation.specs.declared.Registers.{Registers}
 use Rattle.derivation.specs.{Step.written, Computed.every, Computed.isKnown}
 use Rattle.submission.specs.Record.{secondAt}
 use Rattle.derivation.specs.Computed.{unfounded}
-use Rattle.derivation.specs.Code.{IsStep, Registered}
+use Rattle.derivation.specs.Code.{IsStep, Lowest}
 use Rattle.derivation.proofs.theory.StepMeaning.{steps-pass}
 use Rattle.derivation.proofs.theory.KnownPremises.{first-known, second-known, known-held, known-stays}
 use Rattle.program.specs.declared.Instruction.{Instruction as InstructionRead}
@@ -35,21 +34,21 @@ use Rattle.conditions.specs.Code.{Acceptable, Held}
 use Rattle.conditions.proofs.PassedFacts.{second-is, founded-claimed, acceptable-founded, acceptable-limited, second-way}
 use Rattle.conditions.proofs.theory.ProgramRun.{program-steps}
 
--- ---- "A premise is taken from its lowest register": what the registers' struct says of a known term
-module _ {s : List ℕ} {g : Registers} (h : Acceptable s) (w : Registered s (written s (steps s)) g) where
-  known-register : (i t : ℕ) → i ≤ steps s → t < 256 → isKnown s i t ≡ true → getD (g .first) t 0 ≡ lowest s t
+-- ---- "A premise is taken from its lowest register": what the lowest registers say of a known term
+module _ {s : List ℕ} {g : List ℕ} (h : Acceptable s) (w : Lowest s (written s (steps s)) g) where
+  known-register : (i t : ℕ) → i ≤ steps s → t < 256 → isKnown s i t ≡ true → getD g t 0 ≡ lowest s t
   unfolding lowest
   known-register i t l b k = sym (ap (λ o. elim o [ none ↦ 0 | some r ↦ r ]) (known-held every s i t l k w b))
 
   -- the instruction of step i
-  module _ {i : ℕ} {a : Step} (x : IsStep s i a) (l : i < steps s) {b : Bool} {f : ℕ} (e : f ≡ getD (g .first) (a .p) 0) (q : b ≡ hasOne (a .rule)) where
+  module _ {i : ℕ} {a : Step} (x : IsStep s i a) (l : i < steps s) {b : Bool} {f : ℕ} (e : f ≡ getD g (a .p) 0) (q : b ≡ hasOne (a .rule)) where
     step-founded : unfounded s i ≡ false
     step-founded = steps-pass s .0 (acceptable-founded h .founded) i l .1
 
     first-register : f ≡ lowest s (pAt s i)
     first-register = e ∙ rw (x .first) (known-register i (pAt s i) (omega arith) (h .bytes _) (first-known s i step-founded))
 
-    second-register : {r : ℕ} → b ≡ false → r ≡ getD (g .first) (a .q) 0 → r ≡ lowest s (qAt s i)
+    second-register : {r : ℕ} → b ≡ false → r ≡ getD g (a .q) 0 → r ≡ lowest s (qAt s i)
     second-register n m =
         let z : a .q ≡ secondAt s i = second-is x (rw (← q, n)) in
         let k : isKnown s i (a .q) ≡ true = rw z (second-known s i step-founded) in
@@ -59,7 +58,7 @@ module _ {s : List ℕ} {g : Registers} (h : Acceptable s) (w : Registered s (wr
     unfolding instruction
     one-register n = rw (first-register, ← (x .rule), ← q, n)
 
-    pub two-registers : {r : ℕ} → b ≡ false → r ≡ getD (g .first) (a .q) 0 → record { rule = a .rule; left = f; right = r } ≡ instruction s i
+    pub two-registers : {r : ℕ} → b ≡ false → r ≡ getD g (a .q) 0 → record { rule = a .rule; left = f; right = r } ≡ instruction s i
     unfolding instruction
     two-registers n m = rw (first-register, second-register n m, ← (x .rule), ← q, n)
 
@@ -94,7 +93,7 @@ module _ {s : List ℕ} (h : Acceptable s) where
     test-is f a b = rw (k .way, f, a, b, ← e)
 
 -- ---- one operand
-module _ {s : List ℕ} {g : Registers} (h : Acceptable s) (w : Registered s (written s (steps s)) g) {c : Claim} (k : IsClaim s c) {o : OperandRead} (held : Held s (operandIs o)) where
+module _ {s : List ℕ} {g : List ℕ} (h : Acceptable s) (w : Lowest s (written s (steps s)) g) {c : Claim} (k : IsClaim s c) {o : OperandRead} (held : Held s (operandIs o)) where
   pub verifying-few : o ≡ VerifyingResult → c .step < 128
   verifying-few e = rw (k .step) (one-of-steps h _ (rw e at held))
 
@@ -107,12 +106,12 @@ module _ {s : List ℕ} {g : Registers} (h : Acceptable s) (w : Registered s (wr
   pub names-companion : {r : ℕ} → o ≡ CompanionResult → r ≡ written s (c .companion) → r ≡ named s (operandIs o)
   names-companion e f = rw (e, ← (k .other)) f
 
-  pub names-conclusion : {r t : ℕ} → o ≡ LowestConclusion → t ≡ conclusionAt s (c .step) → r ≡ getD (g .first) t 0 → r ≡ named s (operandIs o)
+  pub names-conclusion : {r t : ℕ} → o ≡ LowestConclusion → t ≡ conclusionAt s (c .step) → r ≡ getD g t 0 → r ≡ named s (operandIs o)
   names-conclusion {t = t} e f m =
       let z : t ≡ conclusionAt s (verifying s) = f ∙ ap (conclusionAt s) (k .step) in
       rw e (m ∙ rw z (known-register h w (steps s) _ (omega arith) (h .bytes _) (rw e at held)))
 
-  pub names-lowest : {r : ℕ} → o ≡ LowestCompanion → r ≡ getD (g .first) (c .companion) 0 → r ≡ named s (operandIs o)
+  pub names-lowest : {r : ℕ} → o ≡ LowestCompanion → r ≡ getD g (c .companion) 0 → r ≡ named s (operandIs o)
   names-lowest e m = rw e (m ∙ rw (k .other) (known-register h w (steps s) _ (omega arith) (h .bytes _) (rw e at held)))
 
 pub ruleset instructions = (one-register, two-registers, acceptable-limited)

@@ -19,10 +19,10 @@ use Rattle.submission.specs.{Record.entries, Record.steps, Record.pAt, Record.w
 use Rattle.submission.specs.declared.Way.the-variants.{AnotherStep, AtStart, InverseKey}
 use Rattle.submission.specs.Check.{wayOf}
 use Rattle.derivation.specs.declared.Step.{Step}
-use Rattle.derivation.specs.declared.Registers.{Registers}
 use Rattle.derivation.specs.{Step.written, Computed.isKnown}
 use Rattle.submission.specs.Record.{secondAt}
-use Rattle.derivation.specs.Code.{IsStep, Registered, orNone}
+use Rattle.derivation.specs.Code.{IsStep, Lowest, orNone}
+use Rattle.derivation.proofs.RegistersHeld.{held-any}
 use Rattle.conditions.specs.Computed.{isPremise, samePremises, hasSecondWay}
 use Rattle.conditions.specs.Code.{otherWay}
 use Rattle.conditions.proofs.PassedFacts.{second-is}
@@ -84,10 +84,10 @@ module _ (p : ℕ → Bool) (n m : ℕ) (l : m ≤ n) (k : n < 255) where
           let z : orNone (first p n) ≡ i = ap orNone e in
           all (λ q h. first-some p n i e .2 q (omega arith))
 
-module _ {s : List ℕ} {g : Registers} (h : Limited s) (w : Registered s (written s (steps s)) g) (t : ℕ) (b : t < 256) (r : ℕ) (e : r ≡ getD (g .first) t 0) where
+module _ {s : List ℕ} {g : List ℕ} (h : Limited s) (w : Lowest s (written s (steps s)) g) (t : ℕ) (b : t < 256) (r : ℕ) (e : r ≡ getD g t 0) where
   known-before : (i u : ℕ) → i ≤ steps s → u ≡ written s i → ltb r u ≡ isKnown s i t
   known-before i u l q =
-      let z = w .first t b in
+      let z = w .each t b in
       ⊎-elim (λ m. lt-ltb r u m ∙ sym (found-below _ (written s (steps s)) (written s i) (omega arith) (omega arith) (omega arith)))
       (λ m. le-ltb r u m ∙ sym (none-below _ (written s (steps s)) (written s i) (omega arith) (omega arith) (omega arith)))
       (lt-or-ge r u)
@@ -97,8 +97,8 @@ module _ {s : List ℕ} {g : Registers} (h : Limited s) (w : Registered s (writt
   known-at-start k q = known-before 0 (k + 1) (omega arith) (omega arith)
 
   -- t is in a register
-  pub known-at-end : ltb r (g .used) ≡ isKnown s (steps s) t
-  known-at-end = known-before (steps s) (g .used) (omega arith) (w .used)
+  pub known-at-end : not (eqb r 255) ≡ isKnown s (steps s) t
+  known-at-end = rw e (sym (held-any w t b))
 
 -- ---- the ways
 module _ {s : List ℕ} {c : Claim} (h : IsClaim s c) where

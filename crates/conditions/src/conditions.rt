@@ -1,6 +1,5 @@
 // Conditions 3 to 5: checks 8 to 10, in this order.
 use base::Stage;
-use derivation::Registers;
 use derivation::Step;
 use submission::Claim;
 use submission::Way;
@@ -15,7 +14,7 @@ ghost use Rattle.base.specs.Computed.{failsIf, failsAt};
 ghost use Rattle.base.specs.Code.{checkOf};
 ghost use Rattle.derivation.specs.Step.{written};
 ghost use Rattle.derivation.specs.Computed.{isKnown};
-ghost use Rattle.derivation.specs.Code.{Registered};
+ghost use Rattle.derivation.specs.Code.{Lowest};
 ghost use Rattle.conditions.specs.Computed.{reachable, isPremise, samePremises, hasSecondWay, dismantles as dismantlesBy, undoesStep, undone, checks8to10};
 ghost use Rattle.conditions.specs.Code.{Founded, otherWay};
 ghost use Rattle.base.specs.Words.{first};
@@ -94,30 +93,30 @@ fn is_other_way(s: &[u8], i: u8, j: u8) -> bool
 }
 
 // Way b: the lowest register of t is one of the knowledge, or the guess's.
-fn is_known_at_start(s: &[u8], registers: Registers, t: u8) -> bool
+fn is_known_at_start(s: &[u8], first: &[u8; 256], t: u8) -> bool
     requires { ⌜ Limited (now s) ⌝ }
-    requires { ⌜ Registered (now s) (written (now s) (steps (now s))) registers ⌝ }
+    requires { ⌜ Lowest (now s) (written (now s) (steps (now s))) (now first) ⌝ }
     ensures { λ r. ⌜ r ≡ isKnown (now (s .entry)) 0 t ⌝ }
 {
-    registers.lowest(t) < submission::entries(s) + 1
+    derivation::lowest(first, t) < submission::entries(s) + 1
 }
 
 // Way c: t and j are inverse keys, and a register holds j.
-fn is_inverse_known(s: &[u8], registers: Registers, t: u8, j: u8) -> bool
+fn is_inverse_known(s: &[u8], first: &[u8; 256], t: u8, j: u8) -> bool
     requires { ⌜ Limited (now s) ⌝ }
-    requires { ⌜ Registered (now s) (written (now s) (steps (now s))) registers ⌝ }
+    requires { ⌜ Lowest (now s) (written (now s) (steps (now s))) (now first) ⌝ }
     ensures { λ r. ⌜ r ≡ (areInverse (now (s .entry)) t j && isKnown (now (s .entry)) (steps (now (s .entry))) j) ⌝ }
 {
     if submission::are_inverse(s, t, j) {
-        return registers.lowest(j) < registers.used;
+        return derivation::lowest(first, j) != 255;
     }
     false
 }
 
 // Condition 4.
-fn has_second_way(s: &[u8], registers: Registers, claim: Claim) -> bool
+fn has_second_way(s: &[u8], first: &[u8; 256], claim: Claim) -> bool
     requires { ⌜ Limited (now s) ⌝ }
-    requires { ⌜ Registered (now s) (written (now s) (steps (now s))) registers ⌝ }
+    requires { ⌜ Lowest (now s) (written (now s) (steps (now s))) (now first) ⌝ }
     requires { ⌜ IsClaim (now s) claim ⌝ }
     ensures { λ r. ⌜ r ≡ hasSecondWay (now (s .entry)) (wayOf (wayAt (now (s .entry)))) ⌝ }
 {
@@ -125,19 +124,19 @@ fn has_second_way(s: &[u8], registers: Registers, claim: Claim) -> bool
     let way = claim.way;
     match way {
         Way::AnotherStep => is_other_way(s, claim.step, claim.companion),
-        Way::AtStart => is_known_at_start(s, registers, step.conclusion),
-        Way::InverseKey => is_inverse_known(s, registers, step.conclusion, claim.companion),
+        Way::AtStart => is_known_at_start(s, first, step.conclusion),
+        Way::InverseKey => is_inverse_known(s, first, step.conclusion, claim.companion),
     }
 }
 
 // Check 9.
-fn check_second_way(s: &[u8], registers: Registers, claim: Claim) -> Stage
+fn check_second_way(s: &[u8], first: &[u8; 256], claim: Claim) -> Stage
     requires { ⌜ Limited (now s) ⌝ }
-    requires { ⌜ Registered (now s) (written (now s) (steps (now s))) registers ⌝ }
+    requires { ⌜ Lowest (now s) (written (now s) (steps (now s))) (now first) ⌝ }
     requires { ⌜ IsClaim (now s) claim ⌝ }
     ensures { λ r. ⌜ checkOf r ≡ failsIf (not (hasSecondWay (now (s .entry)) (wayOf (wayAt (now (s .entry)))))) 9 (verifying (now (s .entry))) ⌝ }
 {
-    if has_second_way(s, registers, claim) {
+    if has_second_way(s, first, claim) {
         return Stage::Passed;
     }
     Stage::Refused {
@@ -204,9 +203,9 @@ fn check_undone(s: &[u8], claim: Claim) -> Stage
 }
 
 // Checks 8 to 10; a refusal goes straight out.
-pub fn check_conditions(s: &[u8], registers: Registers, claim: Claim) -> Stage
+pub fn check_conditions(s: &[u8], first: &[u8; 256], claim: Claim) -> Stage
     requires { ⌜ Founded (now s) ⌝ }
-    requires { ⌜ Registered (now s) (written (now s) (steps (now s))) registers ⌝ }
+    requires { ⌜ Lowest (now s) (written (now s) (steps (now s))) (now first) ⌝ }
     requires { ⌜ IsClaim (now s) claim ⌝ }
     ensures { λ r. ⌜ checkOf r ≡ checks8to10 (now (s .entry)) ⌝ }
 {
@@ -214,7 +213,7 @@ pub fn check_conditions(s: &[u8], registers: Registers, claim: Claim) -> Stage
     let Stage::Passed = reachable else {
         return reachable;
     };
-    let second_way = check_second_way(s, registers, claim);
+    let second_way = check_second_way(s, first, claim);
     let Stage::Passed = second_way else {
         return second_way;
     };

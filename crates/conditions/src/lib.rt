@@ -5,7 +5,6 @@ mod page;
 
 use base::Answer;
 use base::Stage;
-use derivation::Registers;
 use submission::Claim;
 use submission::Reading;
 ghost use mathlib.Core.Path.{_≡_};
@@ -13,7 +12,7 @@ ghost use lib.ListN.{length};
 ghost use Rattle.submission.specs.Record.{steps};
 ghost use Rattle.submission.specs.Code.{IsClaim};
 ghost use Rattle.derivation.specs.Step.{written};
-ghost use Rattle.derivation.specs.Code.{Registered};
+ghost use Rattle.derivation.specs.Code.{Lowest};
 ghost use Rattle.conditions.specs.Code.{Acceptable};
 ghost use Rattle.base.specs.Answer.{done, answerOf};
 ghost use Rattle.base.specs.Code.{checkOf};
@@ -62,9 +61,9 @@ fn check_page(s: &[u8], page: &[u8]) -> Stage
 }
 
 // Accepts a submission that passed checks 1 to 10, where the page has room: writes the register program at the page's start.
-fn accept(s: &[u8], registers: Registers, claim: Claim, page: &mut [u8]) -> Verdict
+fn accept(s: &[u8], first: &[u8; 256], claim: Claim, page: &mut [u8]) -> Verdict
     requires { ⌜ Acceptable (now s) ⌝ }
-    requires { ⌜ Registered (now s) (written (now s) (steps (now s))) registers ⌝ }
+    requires { ⌜ Lowest (now s) (written (now s) (steps (now s))) (now first) ⌝ }
     requires { ⌜ IsClaim (now s) claim ⌝ }
     ensures { λ r. ⌜ Checked (now (s .entry)) (now (page .entry)) r (now (page .exit)) ⌝ }
 {
@@ -73,7 +72,7 @@ fn accept(s: &[u8], registers: Registers, claim: Claim, page: &mut [u8]) -> Verd
     let Stage::Passed = room else {
         return verdict_of(room, count);
     };
-    page::write_program(s, registers, claim, page);
+    page::write_program(s, first, claim, page);
     Verdict::Accepted(count)
 }
 
@@ -91,10 +90,9 @@ pub fn check(s: &[u8], page: &mut [u8]) -> Verdict
     let Stage::Passed = steps else {
         return verdict_of(steps, count);
     };
-    let registers = checked.registers;
-    let met = conditions::check_conditions(s, registers, claim);
+    let met = conditions::check_conditions(s, &checked.registers.first, claim);
     let Stage::Passed = met else {
         return verdict_of(met, count);
     };
-    accept(s, registers, claim, page)
+    accept(s, &checked.registers.first, claim, page)
 }

@@ -1,5 +1,4 @@
 // The register program of a submission that passed checks 1 to 10, written on the page.
-use derivation::Registers;
 use program::Instruction;
 use program::Program;
 use program::Test;
@@ -13,7 +12,7 @@ ghost use lib.ListN.{length, drop};
 ghost use Rattle.submission.specs.Code.{Limited, operandIs, IsClaim};
 ghost use Rattle.submission.specs.Record.{steps, conclusionAt, wayAt};
 ghost use Rattle.derivation.specs.Step.{written};
-ghost use Rattle.derivation.specs.Code.{Registered};
+ghost use Rattle.derivation.specs.Code.{Lowest};
 ghost use Rattle.program.specs.Program.{bytesOf, programLength};
 ghost use Rattle.program.specs.Code.{instructionIn, testIn, programIn};
 ghost use Rattle.conditions.specs.Calls.{instruction, named as namedBy, program, testFor};
@@ -21,15 +20,15 @@ ghost use Rattle.conditions.specs.Code.{Acceptable, Held};
 ghost use Rattle.submission.specs.Check.{wayOf};
 
 // The instruction of step i: each premise is taken from its lowest register.
-fn instruction_of(s: &[u8], registers: Registers, i: u8) -> Instruction
+fn instruction_of(s: &[u8], first: &[u8; 256], i: u8) -> Instruction
     requires { ⌜ Acceptable (now s) ⌝ }
-    requires { ⌜ Registered (now s) (written (now s) (steps (now s))) registers ⌝ }
+    requires { ⌜ Lowest (now s) (written (now s) (steps (now s))) (now first) ⌝ }
     requires { ⌜ i < steps (now s) ⌝ }
     ensures { λ r. ⌜ instructionIn r ≡ instruction (now (s .entry)) i ⌝ }
 {
     let step = derivation::step_at(s, i);
     let rule = step.rule;
-    let left = registers.lowest(step.p);
+    let left = derivation::lowest(first, step.p);
     if rules::has_one(rule) {
         return Instruction {
             rule,
@@ -40,7 +39,7 @@ fn instruction_of(s: &[u8], registers: Registers, i: u8) -> Instruction
     Instruction {
         rule,
         left,
-        right: registers.lowest(step.q),
+        right: derivation::lowest(first, step.q),
     }
 }
 
@@ -62,9 +61,9 @@ fn conclusion_of(s: &[u8], i: u8) -> u8
 }
 
 // The register that a test of the claim names.
-fn named(s: &[u8], registers: Registers, claim: Claim, operand: Operand) -> u8
+fn named(s: &[u8], first: &[u8; 256], claim: Claim, operand: Operand) -> u8
     requires { ⌜ Acceptable (now s) ⌝ }
-    requires { ⌜ Registered (now s) (written (now s) (steps (now s))) registers ⌝ }
+    requires { ⌜ Lowest (now s) (written (now s) (steps (now s))) (now first) ⌝ }
     requires { ⌜ IsClaim (now s) claim ⌝ }
     requires { ⌜ Held (now s) (operandIs operand) ⌝ }
     ensures { λ r. ⌜ r ≡ namedBy (now (s .entry)) (operandIs operand) ⌝ }
@@ -72,15 +71,15 @@ fn named(s: &[u8], registers: Registers, claim: Claim, operand: Operand) -> u8
     match operand {
         Operand::VerifyingResult => result_register(s, claim.step),
         Operand::CompanionResult => result_register(s, claim.companion),
-        Operand::LowestConclusion => registers.lowest(conclusion_of(s, claim.step)),
-        Operand::LowestCompanion => registers.lowest(claim.companion),
+        Operand::LowestConclusion => derivation::lowest(first, conclusion_of(s, claim.step)),
+        Operand::LowestCompanion => derivation::lowest(first, claim.companion),
     }
 }
 
 // The test of the claim's way.
-fn claim_test(s: &[u8], registers: Registers, claim: Claim) -> Test
+fn claim_test(s: &[u8], first: &[u8; 256], claim: Claim) -> Test
     requires { ⌜ Acceptable (now s) ⌝ }
-    requires { ⌜ Registered (now s) (written (now s) (steps (now s))) registers ⌝ }
+    requires { ⌜ Lowest (now s) (written (now s) (steps (now s))) (now first) ⌝ }
     requires { ⌜ IsClaim (now s) claim ⌝ }
     ensures { λ r. ⌜ testIn r ≡ testFor (now (s .entry)) (wayOf (wayAt (now (s .entry)))) ⌝ }
 {
@@ -89,8 +88,8 @@ fn claim_test(s: &[u8], registers: Registers, claim: Claim) -> Test
     let relation = row.relation;
     let tested = row.tested;
     let against = row.against;
-    let left = named(s, registers, claim, tested);
-    let right = named(s, registers, claim, against);
+    let left = named(s, first, claim, tested);
+    let right = named(s, first, claim, against);
     Test {
         letter: program::letter_of(relation),
         left,
@@ -99,13 +98,13 @@ fn claim_test(s: &[u8], registers: Registers, claim: Claim) -> Test
 }
 
 // The register program, computed: an instruction for each step, and the test.
-fn program_of(s: &[u8], registers: Registers, claim: Claim) -> Program
+fn program_of(s: &[u8], first: &[u8; 256], claim: Claim) -> Program
     requires { ⌜ Acceptable (now s) ⌝ }
-    requires { ⌜ Registered (now s) (written (now s) (steps (now s))) registers ⌝ }
+    requires { ⌜ Lowest (now s) (written (now s) (steps (now s))) (now first) ⌝ }
     requires { ⌜ IsClaim (now s) claim ⌝ }
     ensures { λ r. ⌜ programIn r ≡ program (now (s .entry)) ⌝ }
 {
-    let test = claim_test(s, registers, claim);
+    let test = claim_test(s, first, claim);
     let n = submission::steps(s);
     let mut instructions = [Instruction {
         rule: 0,
@@ -114,7 +113,7 @@ fn program_of(s: &[u8], registers: Registers, claim: Claim) -> Program
     }; 128];
     let mut i: u8 = 0;
     while i < n {
-        let x = instruction_of(s, registers, i);
+        let x = instruction_of(s, first, i);
         let k = base::wide(i);
         instructions[k] = x;
         i += 1;
@@ -127,12 +126,12 @@ fn program_of(s: &[u8], registers: Registers, claim: Claim) -> Program
 }
 
 // Writes the program at the page's start.
-pub fn write_program(s: &[u8], registers: Registers, claim: Claim, page: &mut [u8])
+pub fn write_program(s: &[u8], first: &[u8; 256], claim: Claim, page: &mut [u8])
     requires { ⌜ Acceptable (now s) ⌝ }
-    requires { ⌜ Registered (now s) (written (now s) (steps (now s))) registers ⌝ }
+    requires { ⌜ Lowest (now s) (written (now s) (steps (now s))) (now first) ⌝ }
     requires { ⌜ programLength (steps (now s)) ≤ length (now page) ⌝ }
     requires { ⌜ IsClaim (now s) claim ⌝ }
     ensures { λ _. ⌜ now (page .exit) ≡ bytesOf (program (now (s .entry))) ++ drop (programLength (steps (now (s .entry)))) (now (page .entry)) ⌝ }
 {
-    program::write(program_of(s, registers, claim), page);
+    program::write(program_of(s, first, claim), page);
 }

@@ -21,52 +21,55 @@ use Rattle.submission.specs.Record.{entries, steps, entryAt}
 use Rattle.derivation.specs.declared.Step.{Step}
 use Rattle.derivation.specs.declared.Registers.{Registers}
 use Rattle.derivation.specs.Step.{registerTerm, written}
-use Rattle.derivation.specs.Code.{IsStep, orNone, RegisteredAmong, Registered, Unused, Added}
+use Rattle.derivation.specs.Code.{IsStep, orNone, LowestAmong, Lowest, Registered, Unused, holding}
 use Rattle.derivation.proofs.theory.RegisterTerms.{entry-register, guess-register, result-register}
 use Rattle.derivation.specs.Computed.{holdsTerm, lowestAmong}
 
--- ---- one call of `with`
-pub added-kept : {b : Registers} {i t : ℕ} → i ≡ t → (getD (b .first) i 0 ≡ 255 → ⊥) → Added b t (record { first = b .first; used = b .used + 1 })
-added-kept e d = record { used = refl; first = rw (← e, ne-eqb _ _ d) }
+-- ---- one call of `hold`
+module _ (f : List ℕ) {i t : ℕ} (q : ℕ) (e : i ≡ t) where
+  pub held-already : (getD f i 0 ≡ 255 → ⊥) → f ≡ holding f t q
+  unfolding holding
+  held-already d = rw (← e, ne-eqb _ _ d)
 
-pub added-stored : {b : Registers} {i t : ℕ} → i ≡ t → getD (b .first) i 0 ≡ 255 → Added b t (record { first = set (b .first) i (b .used); used = b .used + 1 })
-added-stored e f = record { used = refl; first = rw (← e, eq-eqb _ _ f) }
+  pub held-now : getD f i 0 ≡ 255 → set f i q ≡ holding f t q
+  unfolding holding
+  held-now d = rw (← e, eq-eqb _ _ d)
 
 -- ---- what a look tells
-module _ {counts : ℕ → Bool} {s : List ℕ} {n : ℕ} {r : Registers} (h : RegisteredAmong counts s n r) (t : ℕ) (l : t < 256) where
-  pub held-lowest : (q : ℕ) → lowestAmong counts s n t ≡ some q → getD (r .first) t 0 ≡ q
-  held-lowest q e = h .first t l ∙ ap orNone e
+module _ {counts : ℕ → Bool} {s : List ℕ} {n : ℕ} {f : List ℕ} (h : LowestAmong counts s n f) (t : ℕ) (l : t < 256) where
+  pub held-lowest : (q : ℕ) → lowestAmong counts s n t ≡ some q → getD f t 0 ≡ q
+  held-lowest q e = h .each t l ∙ ap orNone e
 
-  pub held-none : n ≤ 255 → getD (r .first) t 0 ≡ 255 → lowestAmong counts s n t ≡ none
-  held-none b f = go (lowestAmong counts s n t) refl
+  pub held-none : getD f t 0 ≡ 255 → lowestAmong counts s n t ≡ none
+  held-none d = go (lowestAmong counts s n t) refl
     where
       go : (o : Option ℕ) → lowestAmong counts s n t ≡ o → o ≡ none
       go none e = refl
       go (some q) e =
           let w = first-some (holdsTerm counts s t) n q e in
-          let z : q ≡ 255 = sym (held-lowest q e) ∙ f in
-          absurd (omega arith)
+          let z : q ≡ 255 = sym (held-lowest q e) ∙ d in
+          absurd (omega (arith, h .few))
 
-  pub held-some : (getD (r .first) t 0 ≡ 255 → ⊥) → (q : ℕ) × (lowestAmong counts s n t ≡ some q)
+  pub held-some : (getD f t 0 ≡ 255 → ⊥) → (q : ℕ) × (lowestAmong counts s n t ≡ some q)
   held-some d = go (lowestAmong counts s n t) refl
     where
       go : (o : Option ℕ) → lowestAmong counts s n t ≡ o → (q : ℕ) × (lowestAmong counts s n t ≡ some q)
-      go none e = absurd (d (h .first t l ∙ ap orNone e))
+      go none e = absurd (d (h .each t l ∙ ap orNone e))
       go (some q) e = (q, e)
 
   -- whether the term is in one of them at all
-  pub held-any : r .used < 256 → any (holdsTerm counts s t) n ≡ not (eqb (getD (r .first) t 0) 255)
+  pub held-any : any (holdsTerm counts s t) n ≡ not (eqb (getD f t 0) 255)
   unfolding any
-  held-any b = go (eqb (getD (r .first) t 0) 255) refl
+  held-any = go (eqb (getD f t 0) 255) refl
     where
-      go : (d : Bool) → eqb (getD (r .first) t 0) 255 ≡ d → any (holdsTerm counts s t) n ≡ not d
-      go true e = ap isSome (held-none (omega (arith, h .used)) (eqb-true _ 255 e))
-      go false e = let (q, f) = held-some (eqb-false _ 255 e) in ap isSome f
+      go : (d : Bool) → eqb (getD f t 0) 255 ≡ d → any (holdsTerm counts s t) n ≡ not d
+      go true e = ap isSome (held-none (eqb-true _ 255 e))
+      go false e = let (q, g) = held-some (eqb-false _ 255 e) in ap isSome g
 
 -- ---- the first n registers, from none on
-pub registered-none : {counts : ℕ → Bool} {s : List ℕ} {r : Registers} → Unused r → RegisteredAmong counts s 0 r
+pub lowest-none : {counts : ℕ → Bool} {s : List ℕ} {r : Registers} → Unused r → LowestAmong counts s 0 (r .first)
 unfolding first firstFrom
-registered-none u = record { used = u .used; first = u .first }
+lowest-none u = record { few = omega arith; each = u .first }
 
 in-range : (f : List ℕ) (t : ℕ) → getD f t 0 ≡ 255 → t < length f
 in-range f t e =
@@ -79,42 +82,52 @@ other-place true f t v u x = getD-set-other f t u v 0 x
 other-place false f t v u x = refl
 
 -- the next register counts, and holds document 01's term
-module _ {counts : ℕ → Bool} {s : List ℕ} {n t : ℕ} {r r′ : Registers} (b : n < 255) (h : RegisteredAmong counts s n r) (z : counts n ≡ true) (e : t ≡ registerTerm s n) (a : Added r t r′) where
-  at-term : t < 256 → (d : Bool) → eqb (getD (r .first) t 0) 255 ≡ d → getD (r′ .first) t 0 ≡ orNone (lowestAmong counts s (n + 1) t)
+module _ {counts : ℕ → Bool} {s : List ℕ} {n t : ℕ} {f : List ℕ} (b : n < 255) (h : LowestAmong counts s n f) (z : counts n ≡ true) (e : t ≡ registerTerm s n) where
+  at-term : t < 256 → (d : Bool) → eqb (getD f t 0) 255 ≡ d → getD (holding f t n) t 0 ≡ orNone (lowestAmong counts s (n + 1) t)
+  unfolding holding
   at-term l true y =
-      let f : getD (r .first) t 0 ≡ 255 = eqb-true _ 255 y in
-      let w : lowestAmong counts s (n + 1) t ≡ some n = first-next _ n (held-none h t l (omega arith) f) (and-both _ _ z (eq-eqb _ _ (sym e))) in
-      rw (a .first, y, w, getD-set-same (r .first) t (r .used) 0 (in-range (r .first) t f)) (h .used)
+      let x : getD f t 0 ≡ 255 = eqb-true _ 255 y in
+      let w : lowestAmong counts s (n + 1) t ≡ some n = first-next _ n (held-none h t l x) (and-both _ _ z (eq-eqb _ _ (sym e))) in
+      rw (y, w, getD-set-same f t n 0 (in-range f t x))
   at-term l false y =
-      let (q, f) = held-some h t l (eqb-false _ 255 y) in
-      let w : lowestAmong counts s (n + 1) t ≡ some q = first-kept _ n (n + 1) q (omega arith) f in
-      rw (a .first, y, w) (held-lowest h t l q f)
+      let (q, x) = held-some h t l (eqb-false _ 255 y) in
+      let w : lowestAmong counts s (n + 1) t ≡ some q = first-kept _ n (n + 1) q (omega arith) x in
+      rw (y, w) (held-lowest h t l q x)
 
-  elsewhere : (u : ℕ) → u < 256 → eqb t u ≡ false → getD (r′ .first) u 0 ≡ orNone (lowestAmong counts s (n + 1) u)
+  elsewhere : (u : ℕ) → u < 256 → eqb t u ≡ false → getD (holding f t n) u 0 ≡ orNone (lowestAmong counts s (n + 1) u)
+  unfolding holding
   elsewhere u l x =
       let w : lowestAmong counts s (n + 1) u ≡ lowestAmong counts s n u = first-same _ n (and-right (counts n) _ (rw e at x)) in
-      rw (a .first, w) (other-place (eqb (getD (r .first) t 0) 255) (r .first) t (r .used) u (λ q. eqb-false t u x (sym q)) ∙ h .first u l)
+      rw w (other-place (eqb (getD f t 0) 255) f t n u (λ q. eqb-false t u x (sym q)) ∙ h .each u l)
 
-  pub registered-more : RegisteredAmong counts s (n + 1) r′
-  registered-more = record { used = a .used ∙ ap (λ k. k + 1) (h .used); first = λ u l. go u l (eqb t u) refl }
+  pub lowest-more : LowestAmong counts s (n + 1) (holding f t n)
+  lowest-more = record { few = omega arith; each = λ u l. go u l (eqb t u) refl }
     where
-      go : (u : ℕ) → u < 256 → (c : Bool) → eqb t u ≡ c → getD (r′ .first) u 0 ≡ orNone (lowestAmong counts s (n + 1) u)
+      go : (u : ℕ) → u < 256 → (c : Bool) → eqb t u ≡ c → getD (holding f t n) u 0 ≡ orNone (lowestAmong counts s (n + 1) u)
       go u l true x =
           let q : t ≡ u = eqb-true t u x in
-          subst (λ k. getD (r′ .first) k 0 ≡ orNone (lowestAmong counts s (n + 1) k)) q (at-term (omega arith) (eqb (getD (r .first) t 0) 255) refl)
+          subst (λ k. getD (holding f t n) k 0 ≡ orNone (lowestAmong counts s (n + 1) k)) q (at-term (omega arith) (eqb (getD f t 0) 255) refl)
       go u l false x = elsewhere u l x
 
 -- ---- the registers in the order in which they are written: the knowledge, the guess, the results of the steps
-module _ {s : List ℕ} {r r′ : Registers} (k : Limited s) {n i : ℕ} where
-  pub entry-written : {t : ℕ} → n ≡ entries s → i < n → Registered s i r → t ≡ entryAt s i → Added r t r′ → Registered s (i + 1) r′
-  entry-written e l h x a = registered-more (omega arith) h refl (x ∙ sym (entry-register s i (omega arith))) a
+module _ {s : List ℕ} {f′ : List ℕ} (k : Limited s) {n i : ℕ} where
+  pub entry-written : {f : List ℕ} {t : ℕ} → n ≡ entries s → i < n → Lowest s i f → t ≡ entryAt s i → f′ ≡ holding f t i → Lowest s (i + 1) f′
+  entry-written e l h x a = rw a (lowest-more (omega arith) h refl (x ∙ sym (entry-register s i (omega arith))))
 
-  pub guess-written : {c : ClaimBytes} → n ≡ entries s → i ≤ n → n ≤ i → Registered s i r → IsClaimBytes s c → Added r (c .guess) r′ → Registered s (entries s + 1) r′
+  pub guess-written : {f : List ℕ} {c : ClaimBytes} → n ≡ entries s → i ≤ n → n ≤ i → Lowest s i f → IsClaimBytes s c → f′ ≡ holding f (c .guess) n →
+      Registered s (entries s + 1) (record { first = f′; used = n + 1 })
   guess-written e l m h x a =
       let z : i ≡ entries s = omega arith in
-      registered-more (omega arith) (rw z at h) refl (x .guessed ∙ sym (guess-register s)) a
+      record {
+        used = rw e;
+        first = rw (a, e) (lowest-more (omega arith) (rw z at h) refl (x .guessed ∙ sym (guess-register s)));
+      }
 
-  pub result-written : {st : Step} → n ≡ steps s → i < n → Registered s (written s i) r → IsStep s i st → Added r (st .conclusion) r′ → Registered s (written s (i + 1)) r′
+  pub result-written : {r : Registers} {st : Step} → n ≡ steps s → i < n → Registered s (written s i) r → IsStep s i st → f′ ≡ holding (r .first) (st .conclusion) (r .used) →
+      Registered s (written s (i + 1)) (record { first = f′; used = r .used + 1 })
   result-written e l h x a =
       let z : written s i + 1 ≡ written s (i + 1) = omega arith in
-      rw z at (registered-more (omega arith) h refl (x .conclusion ∙ sym (result-register s i)) a)
+      record {
+        used = ap (λ u. u + 1) (h .used) ∙ z;
+        first = rw (a, h .used, ← z) (lowest-more (omega arith) (h .first) refl (x .conclusion ∙ sym (result-register s i)));
+      }

@@ -18,20 +18,19 @@ use Rattle.derivation.specs.declared.Step.{Step}
 use Rattle.derivation.specs.declared.Registers.{Registers}
 use Rattle.derivation.specs.Step.{written}
 use Rattle.derivation.specs.{Computed.badStep, Computed.unfounded, Computed.checkSteps}
-use Rattle.derivation.specs.Code.{IsStep, Registered, checkStep, StepsChecked}
+use Rattle.derivation.specs.Code.{IsStep, Lowest, Registered, checkStep, StepsChecked}
 use Rattle.derivation.proofs.RegistersHeld.{held-any}
 
 -- ---- check 7 of a step
-module _ {s : List ℕ} {i : ℕ} {r : Registers} {st : Step} (h : Registered s (written s i) r) (x : IsStep s i st) (b : r .used < 256) (l : st .p < 256)
-    {v : ℕ} (e : v ≡ getD (r .first) (st .p) 0) where
+module _ {s : List ℕ} {i : ℕ} {f : List ℕ} {st : Step} (h : Lowest s (written s i) f) (x : IsStep s i st) (l : st .p < 256) {v : ℕ} (e : v ≡ getD f (st .p) 0) where
   pub first-unknown : v ≡ 255 → true ≡ unfounded s i
   unfolding unfounded
-  first-unknown f = rw (← (x .first), held-any h (st .p) l b, ← e, f)
+  first-unknown d = rw (← (x .first), held-any h (st .p) l, ← e, d)
 
-  pub second-decides : {u w : ℕ} → (v ≡ 255 → ⊥) → u ≡ cond (hasOne (st .rule)) (st .p) (st .q) → u < 256 → w ≡ getD (r .first) u 0 → eqb w 255 ≡ unfounded s i
+  pub second-decides : {u w : ℕ} → (v ≡ 255 → ⊥) → u ≡ cond (hasOne (st .rule)) (st .p) (st .q) → u < 256 → w ≡ getD f u 0 → eqb w 255 ≡ unfounded s i
   unfolding unfounded secondAt
-  second-decides {u} d f m g =
-      rw (← (x .first), ← (x .second), ← (x .rule), ← f, held-any h (st .p) l b, ← e, ne-eqb _ _ d, held-any h u m b, ← g, Bool·not-not)
+  second-decides {u} d k m g =
+      rw (← (x .first), ← (x .second), ← (x .rule), ← k, held-any h (st .p) l, ← e, ne-eqb _ _ d, held-any h u m, ← g, Bool·not-not)
 
 -- ---- check 6 and then 7 of a step
 module _ (s : List ℕ) (i : ℕ) {b : Bool} (e : b ≡ badStep s i) where

@@ -22,10 +22,18 @@ abbrev pub orNone : Option ℕ → ℕ
 orNone none = 255
 orNone (some q) = q
 
--- r is the first n registers: how many they are, and the lowest of those that count that holds each term
+-- first has for each term number the lowest of the first n registers that counts and holds the term, 255 for none
+pub record LowestAmong (counts : ℕ → Bool) (s : List ℕ) (n : ℕ) (first : List ℕ) : Type 0 where
+  pub few : n < 256
+  pub each : (t : ℕ) → t < 256 → getD first t 0 ≡ orNone (lowestAmong counts s n t)
+
+abbrev pub Lowest : List ℕ → ℕ → List ℕ → Type 0
+Lowest s n first = LowestAmong every s n first
+
+-- r is the first n registers: how many they are, and the lowest for each term
 pub record RegisteredAmong (counts : ℕ → Bool) (s : List ℕ) (n : ℕ) (r : Registers) : Type 0 where
   pub used : r .used ≡ n
-  pub first : (t : ℕ) → t < 256 → getD (r .first) t 0 ≡ orNone (lowestAmong counts s n t)
+  pub first : LowestAmong counts s n (r .first)
 
 abbrev pub Registered : List ℕ → ℕ → Registers → Type 0
 Registered s n r = RegisteredAmong every s n r
@@ -35,10 +43,9 @@ pub record Unused (r : Registers) : Type 0 where
   pub used : r .used ≡ 0
   pub first : (t : ℕ) → t < 256 → getD (r .first) t 0 ≡ 255
 
--- after holds what before does, and the term t in the next register
-pub record Added (before : Registers) (t : ℕ) (after : Registers) : Type 0 where
-  pub used : after .used ≡ before .used + 1
-  pub first : after .first ≡ cond (eqb (getD (before .first) t 0) 255) (set (before .first) t (before .used)) (before .first)
+-- first, once the next register q holds the term t
+unfoldable pub holding : List ℕ → ℕ → ℕ → List ℕ
+holding first t q = cond (eqb (getD first t 0) 255) (set first t q) first
 
 -- step i's 6, then its 7
 abbrev pub checkStep : List ℕ → ℕ → Check

@@ -19,7 +19,7 @@ ghost use Rattle.submission.specs.Computed.{areInverse};
 ghost use Rattle.base.specs.Code.{checkOf};
 ghost use Rattle.derivation.specs.Step.{written};
 ghost use Rattle.derivation.specs.Computed.{follows as followsBy, badStep, unfounded};
-ghost use Rattle.derivation.specs.Code.{IsStep, Registered, Unused, Added, checkStep, StepsChecked};
+ghost use Rattle.derivation.specs.Code.{IsStep, Lowest, Registered, Unused, holding, checkStep, StepsChecked};
 
 // A step's record.
 pub struct Step {
@@ -144,30 +144,24 @@ impl Registers {
             used: 0,
         }
     }
+}
 
-    // The next register holds term t.
-    pub fn with(self, t: u8) -> Self
-        requires { ⌜ self .used < 255 ⌝ }
-        ensures { λ r. ⌜ Added self t r ⌝ }
-    {
-        let mut r = self;
-        let used = r.used;
-        let i = base::wide(t);
-        r.used = used + 1;
-        if r.first[i] != 255 {
-            return r;
-        }
-        r.first[i] = used;
-        r
+// Register q holds term t: it is the lowest where t had none.
+fn hold(first: &mut [u8; 256], t: u8, q: u8)
+    ensures { λ _. ⌜ now (first .exit) ≡ holding (now (first .entry)) t q ⌝ }
+{
+    let i = base::wide(t);
+    if first[i] != 255 {
+        return;
     }
+    first[i] = q;
+}
 
-    // The lowest register of t, or 255.
-    pub fn lowest(self, t: u8) -> u8
-        ensures { λ r. ⌜ r ≡ getD (self .first) t 0 ⌝ }
-    {
-        let i = base::wide(t);
-        self.first[i]
-    }
+// The lowest register of t, or 255.
+pub fn lowest(first: &[u8; 256], t: u8) -> u8
+    ensures { λ r. ⌜ r ≡ getD (now (first .entry)) t 0 ⌝ }
+{
+    first[base::wide(t)]
 }
 
 // The registers of the knowledge, then the guess's.
@@ -178,27 +172,29 @@ pub fn initial(s: &[u8]) -> Registers
     let mut r = Registers::new();
     let n = submission::entries(s);
     for i in 0..n {
-        r = r.with(submission::entry_at(s, i));
+        hold(&mut r.first, submission::entry_at(s, i), i);
     }
     let claim = submission::claim_bytes(s);
-    r.with(claim.guess)
+    hold(&mut r.first, claim.guess, n);
+    r.used = n + 1;
+    r
 }
 
-// Check 7 of step i, with the registers written before it: a premise is in none of them.
-fn is_unfounded(s: &[u8], before: Registers, i: u8) -> bool
-    requires { ⌜ Registered (now s) (written (now s) i) before ⌝ }
+// Check 7 of step i, with each term's lowest register before it: a premise has none.
+fn is_unfounded(s: &[u8], first: &[u8; 256], i: u8) -> bool
+    requires { ⌜ Lowest (now s) (written (now s) i) (now first) ⌝ }
     ensures { λ r. ⌜ r ≡ unfounded (now (s .entry)) i ⌝ }
 {
     let step = step_at(s, i);
-    if before.lowest(step.p) == 255 {
+    if lowest(first, step.p) == 255 {
         return true;
     }
-    before.lowest(second_of(step)) == 255
+    lowest(first, second_of(step)) == 255
 }
 
 // Check 6 of step i, then its check 7.
-fn check_step(s: &[u8], before: Registers, i: u8) -> Stage
-    requires { ⌜ Registered (now s) (written (now s) i) before ⌝ }
+fn check_step(s: &[u8], first: &[u8; 256], i: u8) -> Stage
+    requires { ⌜ Lowest (now s) (written (now s) i) (now first) ⌝ }
     ensures { λ r. ⌜ checkOf r ≡ checkStep (now (s .entry)) i ⌝ }
 {
     if is_step_bad(s, i) {
@@ -207,7 +203,7 @@ fn check_step(s: &[u8], before: Registers, i: u8) -> Stage
             place: base::wide16(i),
         };
     }
-    if is_unfounded(s, before, i) {
+    if is_unfounded(s, first, i) {
         return Stage::Refused {
             number: 7,
             place: base::wide16(i),
@@ -230,7 +226,7 @@ pub fn check_steps(s: &[u8]) -> StepsAnswer
     let mut r = initial(s);
     let n = submission::steps(s);
     for i in 0..n {
-        let stage = check_step(s, r, i);
+        let stage = check_step(s, &r.first, i);
         let Stage::Passed = stage else {
             return StepsAnswer {
                 registers: r,
@@ -238,7 +234,9 @@ pub fn check_steps(s: &[u8]) -> StepsAnswer
             };
         };
         let step = step_at(s, i);
-        r = r.with(step.conclusion);
+        let used = r.used;
+        hold(&mut r.first, step.conclusion, used);
+        r.used = used + 1;
     }
     StepsAnswer {
         registers: r,

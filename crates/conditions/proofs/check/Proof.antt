@@ -1,5 +1,5 @@
 -- `check` meets its contract: a law for each stage that passed or refused, in the order of the checks.
-use Rattle.conditions.proofs.CheckReturns.{reading-out, reading-limited, reading-claim, steps-out, steps-registered, steps-founded, conditions-out, met-acceptable}
+use Rattle.conditions.proofs.CheckReturns.{reading-out, reading-limited, reading-claim, steps-out, steps-lowest, steps-founded, conditions-out, met-acceptable}
 use borrow.Author.Needs.{needs}
 use Rattle.conditions.proofs.check.Statement.{statement}
 use Rattle.conditions.proofs.check.Tie as tie
@@ -41,7 +41,7 @@ returns-2 : tie.Need-returns-2
 returns-2 c = search steps-out
 
 check-conditions-requires : tie.Need-check-conditions-requires
-check-conditions-requires c κs = (search steps-founded, (search steps-registered, search reading-claim))
+check-conditions-requires c κs = (search steps-founded, (search steps-lowest, search reading-claim))
 
 enum-told-4 : tie.Need-enum-told-4
 enum-told-4 c = search needs
@@ -56,7 +56,7 @@ returns-3 : tie.Need-returns-3
 returns-3 c = search conditions-out
 
 accept-requires : tie.Need-accept-requires
-accept-requires c κs = (search met-acceptable, (search steps-registered, search reading-claim))
+accept-requires c κs = (met-acceptable (search steps-founded) (c .before .before .before .before .before .check-conditions .ensures) (c .before .before .before .enum-told4 .given .1), (search steps-lowest, search reading-claim))
 
 same-length : tie.Need-same-length
 same-length c = search needs

@@ -41,8 +41,11 @@ returns c = search steps-stop
 step-at-requires : tie.Need-step-at-requires Inv-loop μ-loop
 step-at-requires c κs = search needs
 
-with-requires : tie.Need-with-requires Inv-loop μ-loop
-with-requires c κs = search needs
+hold-requires : tie.Need-hold-requires Inv-loop μ-loop
+hold-requires c κs = search needs
+
+add-r : tie.Need-add-r Inv-loop μ-loop
+add-r c = search needs
 
 add-i : tie.Need-add-i Inv-loop μ-loop
 add-i c = search needs
@@ -70,7 +73,8 @@ check-steps-spec =
     enum-told-2
     returns
     step-at-requires
-    with-requires
+    hold-requires
+    add-r
     add-i
     loop-less
     loop-again

@@ -2,13 +2,13 @@
 use Prim.Native.Nat.{_-_, _≤_}
 use native.Mathlib.Omega.{arith}
 use borrow.Author.Needs.{needs}
-use Rattle.derivation.specs.Code.{Registered}
-use Rattle.derivation.proofs.RegistersHeld.{registered-none, entry-written, guess-written}
+use Rattle.derivation.specs.Code.{Lowest}
+use Rattle.derivation.proofs.RegistersHeld.{lowest-none, entry-written, guess-written}
 use Rattle.derivation.proofs.initial.Statement.{statement}
 use Rattle.derivation.proofs.initial.Tie as tie
 
 abbrev Inv-loop : tie.InvT-loop
-Inv-loop s r₀ n i₀ r i = (i ≤ n) × Registered s i r
+Inv-loop s r₀ n i₀ r i = (i ≤ n) × Lowest s i (r .first)
 
 abbrev μ-loop : tie.MeasureT-loop
 μ-loop s r₀ n i₀ r i = n - i
@@ -20,13 +20,13 @@ entries-requires : tie.Need-entries-requires Inv-loop μ-loop
 entries-requires c κs = search needs
 
 loop-holds : tie.Need-loop-holds Inv-loop μ-loop
-loop-holds c = (search needs, search registered-none)
+loop-holds c = (search needs, search lowest-none)
 
 entry-at-requires : tie.Need-entry-at-requires Inv-loop μ-loop
 entry-at-requires c κs = search needs
 
-with-requires : tie.Need-with-requires Inv-loop μ-loop
-with-requires c κs = omega arith
+hold-requires : tie.Need-hold-requires Inv-loop μ-loop
+hold-requires c κs = search needs
 
 add-i : tie.Need-add-i Inv-loop μ-loop
 add-i c = search needs
@@ -40,8 +40,11 @@ loop-again c = (search needs, search entry-written)
 claim-bytes-requires : tie.Need-claim-bytes-requires Inv-loop μ-loop
 claim-bytes-requires c κs = search needs
 
-with-requires-2 : tie.Need-with-requires-2 Inv-loop μ-loop
-with-requires-2 c κs = omega arith
+hold-requires-2 : tie.Need-hold-requires-2 Inv-loop μ-loop
+hold-requires-2 c κs = search needs
+
+add-r : tie.Need-add-r Inv-loop μ-loop
+add-r c = omega arith
 
 returns : tie.Need-returns Inv-loop μ-loop
 returns c = search guess-written
@@ -56,10 +59,11 @@ initial-spec =
     entries-requires
     loop-holds
     entry-at-requires
-    with-requires
+    hold-requires
     add-i
     loop-less
     loop-again
     claim-bytes-requires
-    with-requires-2
+    hold-requires-2
+    add-r
     returns)

@@ -11,10 +11,9 @@ use Rattle.base.proofs.Says.{says-and, says-true}
 use Rattle.base.proofs.First.{first-some}
 use Rattle.base.proofs.FirstGrowing.{first-kept, any-first, any-more}
 use Rattle.submission.specs.Record.{steps, pAt, secondAt}
-use Rattle.derivation.specs.declared.Registers.{Registers}
 use Rattle.derivation.specs.{Step.written, Computed.lowestAmong, Computed.knownAmong, Computed.isKnown}
 use Rattle.derivation.specs.Computed.{unfounded}
-use Rattle.derivation.specs.Code.{RegisteredAmong}
+use Rattle.derivation.specs.Code.{LowestAmong}
 use Rattle.derivation.proofs.RegistersHeld.{held-lowest}
 
 -- a founded step's premises are known before it
@@ -34,8 +33,8 @@ module _ (counts : ℕ → Bool) (s : List ℕ) (i t : ℕ) (l : i ≤ steps s) 
       let (q, e) = any-first _ (written s i) k in
       (q, first-kept _ (written s i) (written s (steps s)) q (omega arith) e, first-some _ (written s i) q e .0)
 
-  pub known-held : {r : Registers} → RegisteredAmong counts s (written s (steps s)) r → t < 256 →
-      lowestAmong counts s (written s (steps s)) t ≡ some (getD (r .first) t 0)
+  pub known-held : {f : List ℕ} → LowestAmong counts s (written s (steps s)) f → t < 256 →
+      lowestAmong counts s (written s (steps s)) t ≡ some (getD f t 0)
   known-held h m =
       let (q, e, b) = known-lowest in
       e ∙ ap some (sym (held-lowest h t m q e))

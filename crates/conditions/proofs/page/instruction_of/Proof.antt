@@ -1,4 +1,4 @@
--- `instruction_of` meets its contract: a premise is known, so its lowest register is the one that the struct holds.
+-- `instruction_of` meets its contract: a premise is known, so its lowest register is the one that the array holds.
 use Rattle.conditions.proofs.ProgramValue.{instructions}
 use borrow.Author.Needs.{needs}
 use Rattle.conditions.proofs.page.instruction_of.Statement.{statement}

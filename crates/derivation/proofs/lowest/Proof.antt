@@ -1,7 +1,7 @@
--- `Registers::lowest` reads the array.
+-- `lowest` reads the array.
 use borrow.Author.Needs.{needs}
-use Rattle.derivation.proofs.Registers.lowest.Statement.{statement}
-use Rattle.derivation.proofs.Registers.lowest.Tie as tie
+use Rattle.derivation.proofs.lowest.Statement.{statement}
+use Rattle.derivation.proofs.lowest.Tie as tie
 
 wide-requires : tie.Need-wide-requires
 wide-requires c κs = search needs
