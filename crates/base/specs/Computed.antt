@@ -6,6 +6,11 @@ use Rattle.base.specs.{Words.Bool, Words.true, Words.false, Words.Option
 unfoldable pub any : (ℕ → Bool) → ℕ → Bool
 any p n = elim (first p n) [ none ↦ false | some i ↦ true ]
 
+-- a number that was found, or 255
+abbrev pub orNone : Option ℕ → ℕ
+orNone none = 255
+orNone (some n) = n
+
 -- what one check says: nothing, or the number and the place of a refusal
 pub data Check : Type 0 where
   passes : Check

@@ -21,12 +21,12 @@ use Rattle.submission.specs.Check.{wayOf}
 use Rattle.derivation.specs.declared.Step.{Step}
 use Rattle.derivation.specs.{Step.written, Computed.isKnown}
 use Rattle.submission.specs.Record.{secondAt}
-use Rattle.derivation.specs.Code.{IsStep, Lowest, orNone}
+use Rattle.derivation.specs.Code.{IsStep, Lowest}
 use Rattle.derivation.proofs.RegistersHeld.{held-any}
 use Rattle.conditions.specs.Computed.{isPremise, samePremises, hasSecondWay}
 use Rattle.conditions.specs.Code.{otherWay}
 use Rattle.conditions.proofs.PassedFacts.{second-is}
-use Rattle.base.specs.Computed.{any}
+use Rattle.base.specs.Computed.{any, orNone}
 
 -- ---- the premises of step i, whose record is a
 module _ {s : List ℕ} {i : ℕ} {a : Step} (h : IsStep s i a) where

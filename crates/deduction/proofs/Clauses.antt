@@ -116,7 +116,7 @@ module _ {s : List ℕ} {t : ℕ} (v : TableRead s) (l : t < terms s) (m : List 
   pub freely-reached : {x y : ℕ} → openingOf s t ≡ Freely x y → at m t ≡ true → Reach (Marked s m) (term s x) × Reach (Marked s m) (term s y)
   freely-reached {x} {y} o e =
       let from : (n : ℕ) → gives s m (recordAt s t) n ≡ true → Reach (Marked s m) (term s n) = λ n g.
-          let w : (n < terms s) × Reach (Marked s m) (term s n) = gives-reached (facts v) m (λ k c p. known (k, c, (p, refl))) t n l (known (t, l, (e, refl))) g in w .1 in (
+      let w : (n < terms s) × Reach (Marked s m) (term s n) = gives-reached (facts v) m (λ k c p. known (k, c, (p, refl))) t n l (known (t, l, (e, refl))) g in w .1 in (
         from x (opening-gives v l m x ∙ rw o (or-left (eqb x x) (eqb x y) (eq-eqb x x refl))),
         from y (opening-gives v l m y ∙ rw o (or-right (eqb y x) (eqb y y) (eq-eqb y y refl))),
       )

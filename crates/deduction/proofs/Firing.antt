@@ -196,21 +196,21 @@ module _ {s m₀ o₀ m o : List ℕ} {e₀ e h : ℕ} (p : OpenLoop s m₀ o₀
           apart = record {
             freely = λ t x y i j. ⊎-elim (λ k. kept .freely t x y k j)
                 (λ k.
-                    let ku : u ≡ t = sym (g .same h b) ∙ k in
-                    let j′ : openingOf s u ≡ Freely x y = rw ku j in
-                    let (bx, by) = freely-listed v open-term j′ in
-                    let (mx, my) = a .freely x y j′ in
-                    (f .grown .sound .holds x bx mx, f .grown .sound .holds y by my)) (among-more o₂ h t i);
+                let ku : u ≡ t = sym (g .same h b) ∙ k in
+                let j′ : openingOf s u ≡ Freely x y = rw ku j in
+                let (bx, by) = freely-listed v open-term j′ in
+                let (mx, my) = a .freely x y j′ in
+                (f .grown .sound .holds x bx mx, f .grown .sound .holds y by my)) (among-more o₂ h t i);
             opened = λ t body key i i′ j. ⊎-elim
                 (λ k. ⊎-elim (λ k′. kept .opened t body key k k′ j)
-                    (λ k′.
-                        let ku : u ≡ key = sym (g .same h b) ∙ k′ in
-                        let (l, w) = marked t i in
-                        f .gave t t body l (rw ku (key-clause j)) (a .grown .sound .holds t l w)) (among-more o₂ h key i′))
+                (λ k′.
+                let ku : u ≡ key = sym (g .same h b) ∙ k′ in
+                let (l, w) = marked t i in
+                f .gave t t body l (rw ku (key-clause j)) (a .grown .sound .holds t l w)) (among-more o₂ h key i′))
                 (λ k.
-                    let ku : u ≡ t = sym (g .same h b) ∙ k in
-                    let j′ : openingOf s u ≡ With body key = rw ku j in
-                    f .grown .sound .holds body (with-listed v open-term j′ .0) (a .opened body key j′ (marked key i′ .1))) (among-more o₂ h t i);
+                let ku : u ≡ t = sym (g .same h b) ∙ k in
+                let j′ : openingOf s u ≡ With body key = rw ku j in
+                f .grown .sound .holds body (with-listed v open-term j′ .0) (a .opened body key j′ (marked key i′ .1))) (among-more o₂ h t i);
           };
           within = omega (arith, g .later);
         }
@@ -277,7 +277,7 @@ module _ {s m₀ o₀ m o : List ℕ} {e₀ e h : ℕ} (p : ComposeLoop s m₀ o
           composedTo = record {
             is = λ t x y l j i i′. ⊎-elim
                 (λ k. ⊎-elim (λ k′. kept .is t x y l j k k′)
-                    (λ k′. let ku : u ≡ y = sym (g .same h b) ∙ k′ in c .second t x l (rw ku j) (marked x i)) (among-more o₁ h y i′))
+                (λ k′. let ku : u ≡ y = sym (g .same h b) ∙ k′ in c .second t x l (rw ku j) (marked x i)) (among-more o₁ h y i′))
                 (λ k. let ku : u ≡ x = sym (g .same h b) ∙ k in c .first t y l (rw ku j) (marked y i′)) (among-more o₁ h x i);
           };
           within = omega (arith, g .later);

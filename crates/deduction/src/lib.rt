@@ -237,13 +237,7 @@ fn link(before: &mut [u8; 256], latest: &mut [u8; 256], i: u8, clause: Clause)
 
 // The records that wait for each term in this role: `latest` has the last of them, and `before` for each of them the one before it; 255
 // stands for none.
-fn chain(
-    s: &[u8],
-    inverses: &[u8; 256],
-    role: Role,
-    before: &mut [u8; 256],
-    latest: &mut [u8; 256],
-)
+fn chain(s: &[u8], inverses: &[u8; 256], role: Role, before: &mut [u8; 256], latest: &mut [u8; 256])
     requires { ⌜ TableRead (now s) ⌝ }
     requires { ⌜ Inverses (now s) (now inverses) ⌝ }
     requires { ⌜ now before ≡ replicate 256 255 ⌝ }
@@ -274,13 +268,7 @@ fn push(marks: &mut [u8; 256], order: &mut [u8; 256], end: usize, t: u8) -> usiz
 }
 
 // The same, where the term `with` is marked.
-fn push_with(
-    marks: &mut [u8; 256],
-    order: &mut [u8; 256],
-    end: usize,
-    t: u8,
-    with: u8,
-) -> usize
+fn push_with(marks: &mut [u8; 256], order: &mut [u8; 256], end: usize, t: u8, with: u8) -> usize
     requires { ⌜ Room (now marks) (now order) end ⌝ }
     ensures { λ r. ⌜ PushedWith (now (marks .entry)) (now (order .entry)) end t with (now (marks .exit)) (now (order .exit)) r ⌝ }
 {
@@ -401,7 +389,17 @@ fn open_all(
     while head < reached {
         let u = order[head];
         reached = take_apart(s, inverses, marks, order, reached, u);
-        reached = fire(s, inverses, Role::Key, before, latest, marks, order, reached, u);
+        reached = fire(
+            s,
+            inverses,
+            Role::Key,
+            before,
+            latest,
+            marks,
+            order,
+            reached,
+            u,
+        );
         head += 1;
     }
     reached
@@ -443,7 +441,6 @@ fn is_under_hash(s: &[u8], t: u8) -> bool
 
 // Whether a compound term is the key of an encryption: a hash is, and nothing else.
 fn has_compound_key(s: &[u8]) -> bool
-    requires { ⌜ TableRead (now s) ⌝ }
     ensures { λ r. ⌜ r ≡ any (hasHashKey (now (s .entry))) (terms (now (s .entry))) ⌝ }
 {
     let n = submission::terms(s);
@@ -484,8 +481,28 @@ fn compose(
     requires { ⌜ getD (now marks) u 0 ≡ 1 ⌝ }
     ensures { λ r. ⌜ Composed (now (s .entry)) u (now (marks .entry)) (now (order .entry)) end (now (marks .exit)) (now (order .exit)) r ⌝ }
 {
-    let first = fire(s, inverses, Role::First, before1, latest1, marks, order, end, u);
-    let second = fire(s, inverses, Role::Second, before2, latest2, marks, order, first, u);
+    let first = fire(
+        s,
+        inverses,
+        Role::First,
+        before1,
+        latest1,
+        marks,
+        order,
+        end,
+        u,
+    );
+    let second = fire(
+        s,
+        inverses,
+        Role::Second,
+        before2,
+        latest2,
+        marks,
+        order,
+        first,
+        u,
+    );
     open_all(s, inverses, before, latest, marks, order, end, second)
 }
 
@@ -576,7 +593,15 @@ fn saturated(s: &[u8], start: Marks) -> Marks
     chain(s, &inverses, Role::Key, &mut before, &mut latest);
     let mut state = [0u8; 256];
     let mut order = [0u8; 256];
-    saturate(s, &inverses, &before, &latest, &start.state, &mut state, &mut order);
+    saturate(
+        s,
+        &inverses,
+        &before,
+        &latest,
+        &start.state,
+        &mut state,
+        &mut order,
+    );
     Marks { state }
 }
 

@@ -11,6 +11,7 @@ use lib.ListN.{length, getD, set, List·getD-eq-default}
 use lib.Seq.{getD-set-same, getD-set-other}
 use borrow.Author.Tests.{eq-eqb, ne-eqb, eqb-true, eqb-false}
 use Rattle.base.specs.{Words.firstFrom, Words.first, Code.isSome, Computed.any}
+use Rattle.base.specs.Computed.{orNone}
 use Rattle.base.proofs.First.{first-some}
 use Rattle.base.proofs.BoolLaws.{and-both, and-right}
 use Rattle.base.proofs.FirstGrowing.{first-kept, first-next, first-same}
@@ -21,7 +22,7 @@ use Rattle.submission.specs.Record.{entries, steps, entryAt}
 use Rattle.derivation.specs.declared.Step.{Step}
 use Rattle.derivation.specs.declared.Registers.{Registers}
 use Rattle.derivation.specs.Step.{registerTerm, written}
-use Rattle.derivation.specs.Code.{IsStep, orNone, LowestAmong, Lowest, Registered, Unused, holding}
+use Rattle.derivation.specs.Code.{IsStep, LowestAmong, Lowest, Registered, Unused, holding}
 use Rattle.derivation.proofs.theory.RegisterTerms.{entry-register, guess-register, result-register}
 use Rattle.derivation.specs.Computed.{holdsTerm, lowestAmong}
 

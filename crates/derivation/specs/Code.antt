@@ -1,8 +1,8 @@
 -- What the code's records mean in document 01's terms.
-use mathlib.Core.{Path._≡_, Bool.Bool, Bool.cond, List.List, Option.Option, Option.none, Option.some}
-use Prim.Native.Nat.{ℕ, _+_, _<_}
+use mathlib.Core.{Path._≡_, Bool.Bool, Bool.cond, List.List}
+use Prim.Native.Nat.{ℕ, _<_}
 use lib.{Dec.eqb, ListN.getD, ListN.set}
-use Rattle.base.specs.{Computed.Check, Computed.failsIf, Computed.andThen, Code.checkOf}
+use Rattle.base.specs.{Computed.orNone, Computed.Check, Computed.failsIf, Computed.andThen, Code.checkOf}
 use Rattle.submission.specs.Record.{steps, ruleAt, pAt, qAt, conclusionAt}
 use Rattle.base.specs.declared.Stage.the-variants.{Passed}
 use Rattle.derivation.specs.declared.Step.{Step}
@@ -16,11 +16,6 @@ pub record IsStep (s : List ℕ) (i : ℕ) (r : Step) : Type 0 where
   pub first : r .p ≡ pAt s i
   pub second : r .q ≡ qAt s i
   pub conclusion : r .conclusion ≡ conclusionAt s i
-
--- a register's number, and 255 for none
-abbrev pub orNone : Option ℕ → ℕ
-orNone none = 255
-orNone (some q) = q
 
 -- first has for each term number the lowest of the first n registers that counts and holds the term, 255 for none
 pub record LowestAmong (counts : ℕ → Bool) (s : List ℕ) (n : ℕ) (first : List ℕ) : Type 0 where

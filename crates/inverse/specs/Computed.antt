@@ -1,11 +1,6 @@
 -- The inverses computed, and the call's answer; what they say is proved: `inverses-promise`, `inverses-exact`.
-use Rattle.base.specs.{Words.List, Words.Option, Words.none, Words.some, Words.ℕ, Words.first, Words.listed, Answer.Answer, Answer.done, Computed.checkRoom, Computed.andThen, Computed.answered}
+use Rattle.base.specs.{Words.List, Words.ℕ, Words.first, Words.listed, Answer.Answer, Answer.done, Computed.orNone, Computed.checkRoom, Computed.andThen, Computed.answered}
 use Rattle.submission.specs.{Record.terms, Computed.areInverse, Computed.checks1to4}
-
--- the number found, or 255
-abbrev pub orNone : Option ℕ → ℕ
-orNone none = 255
-orNone (some n) = n
 
 -- "the number of its inverse, or 255 where none is listed"
 abbrev pub inverseOf : List ℕ → ℕ → ℕ
