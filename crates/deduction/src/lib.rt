@@ -1,10 +1,10 @@
 // Deducibility over all terms, from the knowledge or from any marked terms.
 // Promises: every function is total, for all bytes, and `deducible` answers what the definition `deducibleAnswer` gives, which is yes
 // exactly when some finite list of Dolev-Yao steps reaches the term from the knowledge.
-// Cost, for T terms: the inverses are found first, by `inverse::find`. Each term is marked at most once and treated once when it is: its
-// record is opened, and the records that wait for it are looked at, as for the key that opens them and, where a compound term is a key, as
-// for a part to be built from. A record waits for one key and two parts, so it is looked at four times at most. The build test keeps its
-// answers, so it decides each term once. So the cost grows with T, and with nothing else.
+// Cost, for T terms: the inverses are found first, in one pass (`inverse::find`). A term is marked at most once, and treated once when it is: its
+// record is opened, and the records that wait for it are looked at, for it as the key that opens them and, where a compound term is a key,
+// as a part to be built from. A record waits for one key and two parts, so it is looked at four times at most. The build test keeps its
+// answers, so it decides each term once. So the cost grows as T does.
 use base::Answer;
 use base::Stage;
 use term::kinds;
