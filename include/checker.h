@@ -9,7 +9,7 @@
    overlaps it. For an empty buffer pass any valid pointer and 0. Null with 0 is not promised by the language; in the library as it is
    compiled it is harmless, since no call follows a pointer before it has looked at the length, and the tests try it.
 
-   Stack. A call needs at most 96 KB of stack, for every input. Less than 31 KB is the most that was measured.
+   Stack. A call needs at most 96 KB of stack, for every input. Less than 26 KB is the most that was measured.
 
    Threads. The library has no variables, allocates nothing and makes no system call, so any number of threads may call at once. While a
    call runs, nothing else writes its buffers, and nothing else reads its page.
