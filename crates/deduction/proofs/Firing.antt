@@ -153,52 +153,61 @@ module _ {s m o m′ o′ : List ℕ} {e e′ h : ℕ} (v : TableRead s) (q : Qu
   pub composed-kept : ComposedTo s m o h → ComposedTo s m′ o′ h
   composed-kept p = record { is = λ t x y l f i k. g .sound .holds t l (p .is t x y l f (among-back g b i) (among-back g b k)) }
 
--- ---- the loop of `open_all`
-pub record OpenLoop (s m₀ o₀ : List ℕ) (e₀ : ℕ) (m o : List ℕ) (e h : ℕ) : Type 0 where
+-- ---- the loops of `open_all` and `compose_all`: more terms are marked, and the first h of the order are treated
+pub record Treated (s m₀ o₀ : List ℕ) (e₀ : ℕ) (m o : List ℕ) (e h : ℕ) : Type 0 where
   pub grown : Grown s m₀ o₀ e₀ m o e
-  pub apart : OpenTo s m o h
   pub within : h ≤ e
 
+treated-more : {s m₀ o₀ m o m₁ o₁ : List ℕ} {e₀ e e₁ h : ℕ} → Treated s m₀ o₀ e₀ m o e h → h < e → Grown s m o e m₁ o₁ e₁ → Treated s m₀ o₀ e₀ m₁ o₁ e₁ (h + 1)
+treated-more p b g = record { grown = grown-trans (p .grown) g; within = omega (arith, g .later) }
+
+-- the next term
+module _ {s m₀ o₀ m o : List ℕ} {e₀ e h : ℕ} (p : Treated s m₀ o₀ e₀ m o e h) (b : h < e) where
+  pub next-inside : h < 256
+  next-inside = omega (arith, p .grown .queue .room .enough)
+
+  pub next-term : getD o h 0 < terms s
+  next-term = p .grown .queue .terms h b
+
+  pub next-marked : getD m (getD o h 0) 0 ≡ 1
+  next-marked = p .grown .queue .marked h b
+
+  pub next-less : 256 - (h + 1) < 256 - h
+  next-less = let c = next-inside in omega arith
+
+-- ---- the loop of `open_all`
+pub record OpenLoop (s m₀ o₀ : List ℕ) (e₀ : ℕ) (m o : List ℕ) (e h : ℕ) : Type 0 where
+  pub treated : Treated s m₀ o₀ e₀ m o e h
+  pub apart : OpenTo s m o h
+
 pub open-start : {s m o : List ℕ} {e h : ℕ} → Queue s m o e → h ≤ e → OpenTo s m o h → OpenLoop s m o e m o e h
-open-start q b p = record { grown = grown-none q; apart = p; within = b }
+open-start q b p = record { treated = record { grown = grown-none q; within = b }; apart = p }
 
 module _ {s m₀ o₀ m o : List ℕ} {e₀ e h : ℕ} (p : OpenLoop s m₀ o₀ e₀ m o e h) where
-  pub open-inside : h < e → h < 256
-  open-inside b = omega (arith, p .grown .queue .room .enough)
-
   pub open-end : e ≤ h → OpenTo s m o e
-  open-end b = let i : h ≡ e = omega (arith, p .within) in subst (OpenTo s m o) i (p .apart)
+  open-end b = let i : h ≡ e = omega (arith, p .treated .within) in subst (OpenTo s m o) i (p .apart)
 
   module _ (b : h < e) where
-    pub open-term : getD o h 0 < terms s
-    open-term = p .grown .queue .terms h b
-
-    pub open-marked : getD m (getD o h 0) 0 ≡ 1
-    open-marked = p .grown .queue .marked h b
-
-    pub open-less : 256 - (h + 1) < 256 - h
-    open-less = let c = open-inside b in omega arith
-
     pub open-still : {m₁ o₁ : List ℕ} {e₁ : ℕ} → TakenApart s (getD o h 0) m o e m₁ o₁ e₁ → getD m₁ (getD o h 0) 0 ≡ 1
-    open-still a = a .grown .sound .holds _ open-term open-marked
+    open-still a = a .grown .sound .holds _ (next-term (p .treated) b) (next-marked (p .treated) b)
 
     pub open-more : {m₁ o₁ m₂ o₂ : List ℕ} {e₁ e₂ : ℕ} → TableRead s → TakenApart s (getD o h 0) m o e m₁ o₁ e₁ →
         Fired s Key (getD o h 0) m₁ o₁ e₁ m₂ o₂ e₂ → OpenLoop s m₀ o₀ e₀ m₂ o₂ e₂ (h + 1)
     open-more {m₁} {o₁} {m₂} {o₂} v a f =
         let u = getD o h 0 in
-        let q = p .grown .queue in
+        let q = p .treated .grown .queue in
         let g = grown-trans (a .grown) (f .grown) in
         let c : h ≤ e = omega arith in
         let kept = open-kept v q g c (p .apart) in
         let marked : (n : ℕ) → Among o₂ (h + 1) n → (n < terms s) × (getD m n 0 ≡ 1) = λ n i. among-marked q (omega arith) (among-back g (omega arith) i) in
         record {
-          grown = grown-trans (p .grown) g;
+          treated = treated-more (p .treated) b g;
           apart = record {
             freely = λ t x y i j. ⊎-elim (λ k. kept .freely t x y k j)
                 (λ k.
                 let ku : u ≡ t = sym (g .same h b) ∙ k in
                 let j′ : openingOf s u ≡ Freely x y = rw ku j in
-                let (bx, by) = freely-listed v open-term j′ in
+                let (bx, by) = freely-listed v (next-term (p .treated) b) j′ in
                 let (mx, my) = a .freely x y j′ in
                 (f .grown .sound .holds x bx mx, f .grown .sound .holds y by my)) (among-more o₂ h t i);
             opened = λ t body key i i′ j. ⊎-elim
@@ -210,9 +219,8 @@ module _ {s m₀ o₀ m o : List ℕ} {e₀ e h : ℕ} (p : OpenLoop s m₀ o₀
                 (λ k.
                 let ku : u ≡ t = sym (g .same h b) ∙ k in
                 let j′ : openingOf s u ≡ With body key = rw ku j in
-                f .grown .sound .holds body (with-listed v open-term j′ .0) (a .opened body key j′ (marked key i′ .1))) (among-more o₂ h t i);
+                f .grown .sound .holds body (with-listed v (next-term (p .treated) b) j′ .0) (a .opened body key j′ (marked key i′ .1))) (among-more o₂ h t i);
           };
-          within = omega (arith, g .later);
         }
 
 -- ---- what is built of one term
@@ -239,46 +247,35 @@ module _ {s m o m₁ o₁ : List ℕ} {e e₁ u : ℕ} (v : TableRead s) (f : Fi
 
 -- ---- the loop of `compose_all`
 pub record ComposeLoop (s m₀ o₀ : List ℕ) (e₀ : ℕ) (m o : List ℕ) (e h : ℕ) : Type 0 where
-  pub grown : Grown s m₀ o₀ e₀ m o e
+  pub treated : Treated s m₀ o₀ e₀ m o e h
   pub apart : OpenTo s m o e
   pub composedTo : ComposedTo s m o h
-  pub within : h ≤ e
 
 pub compose-start : {s m o : List ℕ} {e : ℕ} → Queue s m o e → OpenTo s m o e → ComposeLoop s m o e m o e 0
-compose-start q p = record { grown = grown-none q; apart = p; composedTo = record { is = λ t x y l f (k, b, _). absurd (omega arith) }; within = omega arith }
+compose-start q p = record {
+  treated = record { grown = grown-none q; within = omega arith };
+  apart = p;
+  composedTo = record { is = λ t x y l f (k, b, _). absurd (omega arith) };
+}
 
 module _ {s m₀ o₀ m o : List ℕ} {e₀ e h : ℕ} (p : ComposeLoop s m₀ o₀ e₀ m o e h) where
-  pub compose-inside : h < e → h < 256
-  compose-inside b = omega (arith, p .grown .queue .room .enough)
-
   pub compose-end : e ≤ h → ComposedTo s m o e
-  compose-end b = let i : h ≡ e = omega (arith, p .within) in subst (ComposedTo s m o) i (p .composedTo)
+  compose-end b = let i : h ≡ e = omega (arith, p .treated .within) in subst (ComposedTo s m o) i (p .composedTo)
 
-  module _ (b : h < e) where
-    pub compose-term : getD o h 0 < terms s
-    compose-term = p .grown .queue .terms h b
-
-    pub compose-marked : getD m (getD o h 0) 0 ≡ 1
-    compose-marked = p .grown .queue .marked h b
-
-    pub compose-less : 256 - (h + 1) < 256 - h
-    compose-less = let c = compose-inside b in omega arith
-
-    pub compose-more : {m₁ o₁ : List ℕ} {e₁ : ℕ} → TableRead s → Composed s (getD o h 0) m o e m₁ o₁ e₁ → ComposeLoop s m₀ o₀ e₀ m₁ o₁ e₁ (h + 1)
-    compose-more {m₁} {o₁} v c =
-        let u = getD o h 0 in
-        let q = p .grown .queue in
-        let g = c .grown in
-        let kept = composed-kept v q g (omega arith) (p .composedTo) in
-        let marked : (n : ℕ) → Among o₁ (h + 1) n → getD m n 0 ≡ 1 = λ n i. among-marked q (omega arith) (among-back g (omega arith) i) .1 in
-        record {
-          grown = grown-trans (p .grown) g;
-          apart = c .apart;
-          composedTo = record {
-            is = λ t x y l j i i′. ⊎-elim
-                (λ k. ⊎-elim (λ k′. kept .is t x y l j k k′)
-                (λ k′. let ku : u ≡ y = sym (g .same h b) ∙ k′ in c .second t x l (rw ku j) (marked x i)) (among-more o₁ h y i′))
-                (λ k. let ku : u ≡ x = sym (g .same h b) ∙ k in c .first t y l (rw ku j) (marked y i′)) (among-more o₁ h x i);
-          };
-          within = omega (arith, g .later);
-        }
+  pub compose-more : {m₁ o₁ : List ℕ} {e₁ : ℕ} → h < e → TableRead s → Composed s (getD o h 0) m o e m₁ o₁ e₁ → ComposeLoop s m₀ o₀ e₀ m₁ o₁ e₁ (h + 1)
+  compose-more {m₁} {o₁} b v c =
+      let u = getD o h 0 in
+      let q = p .treated .grown .queue in
+      let g = c .grown in
+      let kept = composed-kept v q g (omega arith) (p .composedTo) in
+      let marked : (n : ℕ) → Among o₁ (h + 1) n → getD m n 0 ≡ 1 = λ n i. among-marked q (omega arith) (among-back g (omega arith) i) .1 in
+      record {
+        treated = treated-more (p .treated) b g;
+        apart = c .apart;
+        composedTo = record {
+          is = λ t x y l j i i′. ⊎-elim
+              (λ k. ⊎-elim (λ k′. kept .is t x y l j k k′)
+              (λ k′. let ku : u ≡ y = sym (g .same h b) ∙ k′ in c .second t x l (rw ku j) (marked x i)) (among-more o₁ h y i′))
+              (λ k. let ku : u ≡ x = sym (g .same h b) ∙ k in c .first t y l (rw ku j) (marked y i′)) (among-more o₁ h x i);
+        };
+      }

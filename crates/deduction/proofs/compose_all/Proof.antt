@@ -1,6 +1,6 @@
 -- `compose_all` meets its contract: what is built of the terms before `head` is marked.
 use Prim.Native.Nat.{_-_}
-use Rattle.deduction.proofs.Firing.{ComposeLoop, compose-start, compose-inside, compose-term, compose-marked, compose-less, compose-more, compose-end}
+use Rattle.deduction.proofs.Firing.{ComposeLoop, compose-start, next-inside, next-term, next-marked, next-less, compose-more, compose-end}
 use borrow.Author.Needs.{needs}
 use Rattle.deduction.proofs.compose_all.Statement.{statement}
 use Rattle.deduction.proofs.compose_all.Tie as tie
@@ -21,16 +21,16 @@ loop-holds : tie.Need-loop-holds Inv-loop μ-loop
 loop-holds c = search (compose-start, needs)
 
 element-copy-out-u : tie.Need-element-copy-out-u Inv-loop μ-loop
-element-copy-out-u c = search (compose-inside, needs)
+element-copy-out-u c = search (next-inside, needs)
 
 compose-requires : tie.Need-compose-requires Inv-loop μ-loop
-compose-requires c κs = (search needs, (search needs, (search needs, (search needs, (search needs, (search needs, (search needs, (search (compose-term, needs), search (compose-marked, needs)))))))))
+compose-requires c κs = (search needs, (search needs, (search needs, (search needs, (search needs, (search needs, (search needs, (search (next-term, needs), search (next-marked, needs)))))))))
 
 add-head : tie.Need-add-head Inv-loop μ-loop
 add-head c = search needs
 
 loop-less : tie.Need-loop-less Inv-loop μ-loop
-loop-less c = search (compose-less, needs)
+loop-less c = search (next-less, needs)
 
 loop-again : tie.Need-loop-again Inv-loop μ-loop
 loop-again c = search (compose-more, needs)

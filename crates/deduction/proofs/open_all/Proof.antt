@@ -1,6 +1,6 @@
 -- `open_all` meets its contract: the terms before `head` are taken apart.
 use Prim.Native.Nat.{_-_}
-use Rattle.deduction.proofs.Firing.{OpenLoop, open-start, open-inside, open-term, open-marked, open-still, open-less, open-more, open-end}
+use Rattle.deduction.proofs.Firing.{OpenLoop, open-start, next-inside, next-term, next-marked, open-still, next-less, open-more, open-end}
 use borrow.Author.Needs.{needs}
 use Rattle.deduction.proofs.open_all.Statement.{statement}
 use Rattle.deduction.proofs.open_all.Tie as tie
@@ -15,19 +15,19 @@ loop-holds : tie.Need-loop-holds Inv-loop μ-loop
 loop-holds c = search (open-start, needs)
 
 element-copy-out-u : tie.Need-element-copy-out-u Inv-loop μ-loop
-element-copy-out-u c = search (open-inside, needs)
+element-copy-out-u c = search (next-inside, needs)
 
 take-apart-requires : tie.Need-take-apart-requires Inv-loop μ-loop
-take-apart-requires c κs = (search needs, (search (open-term, needs), (search needs, (search needs, search (open-marked, needs)))))
+take-apart-requires c κs = (search needs, (search (next-term, needs), (search needs, (search needs, search (next-marked, needs)))))
 
 fire-requires : tie.Need-fire-requires Inv-loop μ-loop
-fire-requires c κs = (search needs, (search needs, (search needs, (search needs, (search (open-term, needs), search (open-still, needs))))))
+fire-requires c κs = (search needs, (search needs, (search needs, (search needs, (search (next-term, needs), search (open-still, needs))))))
 
 add-head : tie.Need-add-head Inv-loop μ-loop
 add-head c = search needs
 
 loop-less : tie.Need-loop-less Inv-loop μ-loop
-loop-less c = search (open-less, needs)
+loop-less c = search (next-less, needs)
 
 loop-again : tie.Need-loop-again Inv-loop μ-loop
 loop-again c = search (open-more, needs)
