@@ -14,7 +14,7 @@ use Rattle.base.specs.declared.Stage.{Stage}
 use Rattle.base.specs.declared.Stage.the-variants as stage
 use Rattle.base.specs.Answer.{Answer, done, refused}
 use Rattle.base.specs.Words.{byte}
-use Rattle.submission.specs.Record.{steps}
+use Rattle.submission.specs.{Record.steps, Check.claims}
 use Rattle.base.specs.Computed.{Check, passes, fails, andThen, answered, checkRoom}
 use Rattle.base.specs.Code.{checkOf}
 use Rattle.base.proofs.AnswerLaws.{if-passes}
@@ -30,7 +30,7 @@ use Rattle.conditions.specs.Calls.{verdictAnswer, Checked, program}
 use Rattle.conditions.specs.Code.{Founded, Acceptable}
 use Rattle.conditions.proofs.theory.ProgramRun.{program-bytes}
 use Rattle.submission.specs.Computed.{checks1to5}
-use Rattle.conditions.specs.Computed.{checks1to10, checkAnswer, checks8to10}
+use Rattle.conditions.specs.Computed.{checkClaim, checksBeforePage, checkAnswer}
 
 -- ---- check 11
 module _ (s page : List ℕ) {n k : ℕ} (e : n ≡ steps s) (f : k ≡ programLength n) where
@@ -49,7 +49,7 @@ page-room s page e q = ltb-false _ _ (if-passes _ 11 (programLength (steps s)) .
 -- ---- the answer and the page where every check is known
 module _ (s page : List ℕ) where
   all : Check
-  all = andThen (checks1to10 s) (checkRoom (programLength (steps s)) (length page))
+  all = andThen (checksBeforePage s) (checkRoom (programLength (steps s)) (length page))
 
   refused-out : (number place : ℕ) (v : Verdict) → all ≡ fails number place → verdictAnswer v ≡ refused number place → Checked s page v page
   unfolding all checkAnswer
@@ -70,7 +70,7 @@ of-refusal n number place f q = f ∙ ap (λ x. answered (checkOf x) (done n)) q
 module _ (s : List ℕ) {r : Reading} (reading : ReadingIs s (checks1to5 s) r) where
   pub reading-out : (page : List ℕ) (n : ℕ) {a b : ℕ} (st : Stage) (v : Verdict) → r ≡ ReadingRefused a b → checkOf st ≡ readingCheck r →
       verdictAnswer v ≡ answered (checkOf st) (done n) → Checked s page v page
-  unfolding all checks1to10
+  unfolding all checksBeforePage
   reading-out page n {a} {b} st v q e f =
       let g : checkOf st ≡ fails a b = e ∙ ap readingCheck q in
       refused-out s page a b v (rw (sym (reading .answer) ∙ ap readingCheck q)) (f ∙ ap (λ x. answered x (done n)) g)
@@ -87,7 +87,7 @@ module _ (s : List ℕ) {r : Reading} (reading : ReadingIs s (checks1to5 s) r) w
 
     module _ {z : StepsAnswer} (each : StepsChecked s z) where
       pub steps-out : (page : List ℕ) (n : ℕ) {a b : ℕ} (v : Verdict) → z .stage ≡ stage.Refused a b → verdictAnswer v ≡ answered (checkOf (z .stage)) (done n) → Checked s page v page
-      unfolding all checks1to10
+      unfolding all checksBeforePage
       steps-out page n {a} {b} v q f =
           refused-out s page a b v (rw (reading-passes, said a b (each .answer) q)) (of-refusal n a b f q)
 
@@ -98,15 +98,15 @@ module _ (s : List ℕ) {r : Reading} (reading : ReadingIs s (checks1to5 s) r) w
         pub steps-founded : ((i : ℕ) → Fits w8 (byte s i)) → Founded s
         steps-founded f = record { bytes = bytes s f; read = reading-passes; founded = stage-passes _ (each .answer) passed }
 
-        module _ {t : Stage} (conditions : checkOf t ≡ checks8to10 s) where
-          pub conditions-out : (page : List ℕ) (n : ℕ) {a b : ℕ} (v : Verdict) → t ≡ stage.Refused a b → verdictAnswer v ≡ answered (checkOf t) (done n) → Checked s page v page
-          unfolding all checks1to10
-          conditions-out page n {a} {b} v q f =
-              refused-out s page a b v (rw (reading-passes, stage-passes _ (each .answer) passed, said a b conditions q)) (of-refusal n a b f q)
+        module _ {t : Stage} (claim : checkOf t ≡ checkClaim s (claims s)) where
+          pub claim-out : (page : List ℕ) (n : ℕ) {a b : ℕ} (v : Verdict) → t ≡ stage.Refused a b → verdictAnswer v ≡ answered (checkOf t) (done n) → Checked s page v page
+          unfolding all checksBeforePage
+          claim-out page n {a} {b} v q f =
+              refused-out s page a b v (rw (reading-passes, stage-passes _ (each .answer) passed, said a b claim q)) (of-refusal n a b f q)
 
--- ---- a submission that passed checks 1 to 10
-pub met-acceptable : {s : List ℕ} {t : Stage} → Founded s → checkOf t ≡ checks8to10 s → t ≡ stage.Passed → Acceptable s
-unfolding checks1to10
+-- ---- a submission that passed all checks before 11
+pub met-acceptable : {s : List ℕ} {t : Stage} → Founded s → checkOf t ≡ checkClaim s (claims s) → t ≡ stage.Passed → Acceptable s
+unfolding checksBeforePage
 met-acceptable h e q = record { bytes = h .bytes; passed = rw (h .read, h .founded) (stage-passes _ e q) }
 
 module _ {s : List ℕ} (h : Acceptable s) (page : List ℕ) {u : Stage} (room : checkOf u ≡ checkRoom (programLength (steps s)) (length page)) where

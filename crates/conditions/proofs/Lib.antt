@@ -1,4 +1,5 @@
 pub mod CheckReturns
+pub mod GivenTests
 pub mod PassedFacts
 pub mod ProgramValue
 pub mod SecondWayTests

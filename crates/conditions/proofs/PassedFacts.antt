@@ -1,26 +1,26 @@
--- What holds of a submission that passed checks 1 to 7, of one that passed checks 1 to 10, and of its records as the code reads them.
-use mathlib.Core.Path.{_≡_}
+-- What holds of a submission that passed checks 1 to 7, of one that passed all checks before 11, and of its records as the code reads them.
+use mathlib.Core.Path.{_≡_, subst}
 use mathlib.Core.Bool.{Bool, true, _&&_, not, cond}
 use mathlib.Core.List.{List}
 use Prim.Native.Nat.{ℕ, _<_}
 use Rattle.term.specs.Number.{hasOne}
 use Rattle.submission.specs.declared.Claim.{Claim}
-use Rattle.base.specs.Computed.{fails, failsIf, failsAt}
+use Rattle.base.specs.Computed.{passes, fails, failsIf, failsAt}
 use Rattle.submission.specs.Code.{Limited, IsClaim}
 use Rattle.submission.specs.Record.{terms, steps, verifying, wayAt, secondAt}
-use Rattle.submission.specs.Check.{wayOf}
+use Rattle.submission.specs.Check.{wayOf, Target, Claims, verifier, derived, claims}
 use Rattle.submission.specs.Computed.{checks1to5}
 use Rattle.base.proofs.AnswerLaws.{if-passes, then-passes}
 use Rattle.base.proofs.Says.{not-not-false}
 use Rattle.submission.proofs.PassedChecks.{limited, body-passes}
-use Rattle.submission.proofs.theory.ListedTerms.{Claimed, claimed}
+use Rattle.submission.proofs.theory.ListedTerms.{Claimed, claimed, verifying-below}
 use Rattle.derivation.specs.declared.Step.{Step}
 use Rattle.derivation.specs.Step.{StepFits}
 use Rattle.derivation.specs.Code.{IsStep}
 use Rattle.derivation.proofs.theory.StepMeaning.{second-listed, fits-iff, steps-pass}
 use Rattle.deduction.specs.Computed.{entryMarks, isDeducible}
 use Rattle.submission.specs.Code.{TableRead}
-use Rattle.conditions.specs.Computed.{reachable, hasSecondWay, undone, checks1to10}
+use Rattle.conditions.specs.Computed.{reachable, hasSecondWay, undone, isGiven, checkClaim, checksBeforePage}
 use Rattle.derivation.specs.Computed.{checkSteps}
 use Rattle.conditions.specs.Code.{Founded, Acceptable}
 use Rattle.base.specs.Words.{first}
@@ -42,10 +42,10 @@ module _ {s : List ℕ} (h : Founded s) where
   founded-limited = limited s (body-passes s (h .read))
 
   -- the premises of the verifying step
-  module _ {c : Claim} {a : Step} (k : IsClaim s c) (x : IsStep s (c .step) a) where
+  module _ {c : Claim} {a : Step} (v : claims s ≡ verifier) (k : IsClaim s c) (x : IsStep s (c .step) a) where
     verifying-sound : StepFits s (c .step)
     verifying-sound =
-        let l : c .step < steps s = rw (k .step) (founded-claimed .verifying-below) in
+        let l : c .step < steps s = rw (k .step) (verifying-below founded-claimed v) in
         fits-iff (founded-claimed .read) (c .step) .0 (steps-pass s .0 (h .founded) (c .step) l .0)
 
     pub first-below : a .p < terms s
@@ -66,10 +66,10 @@ fails-at-step b number h e f = rw (f, e, h .step)
 
 pub ruleset founded = (founded-read, founded-limited, first-below, second-below, reachable-is)
 
--- ---- checks 1 to 10
+-- ---- the checks before 11
 module _ {s : List ℕ} (h : Acceptable s) where
   pub acceptable-founded : Founded s
-  unfolding checks1to10
+  unfolding checksBeforePage
   acceptable-founded =
       let (r, t) = then-passes (checks1to5 s) _ .0 (h .passed) in
       record { bytes = h .bytes; read = r; founded = then-passes (checkSteps s) _ .0 t .0 }
@@ -77,11 +77,17 @@ module _ {s : List ℕ} (h : Acceptable s) where
   pub acceptable-limited : Limited s
   acceptable-limited = founded-limited acceptable-founded
 
-  pub second-way : hasSecondWay s (wayOf (wayAt s)) ≡ true
-  unfolding checks1to10
-  second-way =
+  claim-passes : (k : Claims) → claims s ≡ k → checkClaim s k ≡ passes
+  unfolding checksBeforePage
+  claim-passes k e =
       let (r, t) = then-passes (checks1to5 s) _ .0 (h .passed) in
-      let (r, t) = then-passes (checkSteps s) _ .0 t in
-      let (r, t) = then-passes (failsIf (reachable s) 8 (verifying s)) _ .0 t in
+      subst (λ k. checkClaim s k ≡ passes) e (then-passes (checkSteps s) _ .0 t .1)
+
+  pub second-way : claims s ≡ verifier → hasSecondWay s (wayOf (wayAt s)) ≡ true
+  second-way v =
+      let (r, t) = then-passes (failsIf (reachable s) 8 (verifying s)) _ .0 (claim-passes verifier v) in
       let (r, t) = then-passes (failsIf (not (hasSecondWay s (wayOf (wayAt s)))) 9 (verifying s)) (failsAt 10 (first (undone s) (steps s))) .0 t in
       not-not-false _ .0 (if-passes _ 9 (verifying s) .0 r)
+
+  pub target-given : (t : Target) → claims s ≡ derived t → isGiven s t ≡ true
+  target-given t v = not-not-false _ .0 (if-passes _ 16 0 .0 (claim-passes (derived t) v))

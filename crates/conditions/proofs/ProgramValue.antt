@@ -1,24 +1,28 @@
 -- The register program as it is computed: each instruction, the test, and the value that holds them.
-use mathlib.Core.Path.{_≡_, sym, ap, _∙_}
-use mathlib.Core.Bool.{Bool, true, false}
+use mathlib.Core.Path.{_≡_, refl, sym, ap, _∙_, subst}
+use mathlib.Core.Bool.{Bool, true, false, false≢true}
 use mathlib.Core.List.{List, _++_}
-use mathlib.Core.Option.{none, some}
+use mathlib.Core.Option.{Option, none, some}
+use mathlib.Core.Logic.{⊎-elim}
 use Prim.Native.Nat.{ℕ, _+_, _≤_, _<_}
 use native.Mathlib.Omega.{arith}
 use lib.ListN.{getD, set, drop}
+use borrow.Author.Tests.{eq-eqb, ne-eqb}
+use Rattle.base.specs.{Computed.orNone, Code.isSome}
 use Rattle.base.proofs.Says.{says-true, says-and}
 use Rattle.term.specs.Number.{hasOne}
 use Rattle.submission.specs.declared.Claim.{Claim}
-use Rattle.submission.specs.{Record.steps, Record.pAt, Record.qAt, Record.conclusionAt, Record.verifying, Record.wayAt, Record.companion, Computed.areInverse}
+use Rattle.submission.specs.{Record.entries, Record.steps, Record.pAt, Record.qAt, Record.conclusionAt, Record.verifying, Record.wayAt, Record.companion, Computed.areInverse}
 use Rattle.submission.specs.declared.Row.{Row as RowRead}
 use Rattle.submission.specs.declared.Operand.{Operand as OperandRead}
-use Rattle.submission.specs.declared.Operand.the-variants.{VerifyingResult, CompanionResult, LowestConclusion, LowestCompanion}
-use Rattle.submission.specs.Check.{Way, another-step, at-start, inverse-key, wayOf, row}
-use Rattle.submission.specs.Code.{wayIs, operandIs, rowIs, IsClaim}
+use Rattle.submission.specs.declared.Operand.the-variants.{VerifyingResult, CompanionResult, LowestConclusion, LowestCompanion, GuessRegister, GivenRegister}
+use Rattle.submission.specs.declared.Target.{Target as TargetRead}
+use Rattle.submission.specs.Check.{Way, another-step, at-start, inverse-key, guess-derived, inverse-derived, wayOf, Target, the-guess, its-inverse, derived, claimsIn, claims, knowledgeStep, given-register, row}
+use Rattle.submission.specs.Code.{wayIs, targetIs, operandIs, rowIs, IsClaim}
 use Rattle.term.specs.Code.{relationIs}
 use Rattle.program.specs.Program.{rowOf, bytesOf, programLength}
 use Rattle.derivation.specs.declared.Step.{Step}
-use Rattle.derivation.specs.{Step.written, Computed.every, Computed.isKnown}
+use Rattle.derivation.specs.{Step.written, Computed.isKnown}
 use Rattle.submission.specs.Record.{secondAt}
 use Rattle.derivation.specs.Computed.{unfounded}
 use Rattle.derivation.specs.Code.{IsStep, Lowest}
@@ -31,14 +35,16 @@ use Rattle.program.specs.Code.{instructionIn, testIn, programIn}
 use Rattle.program.proofs.theory.Value.{Holds, holds-more, holds-all, held-count}
 use Rattle.conditions.specs.Calls.{lowest, named, instruction, program, testFor}
 use Rattle.conditions.specs.Code.{Acceptable, Held}
-use Rattle.conditions.proofs.PassedFacts.{second-is, founded-claimed, acceptable-founded, acceptable-limited, second-way}
+use Rattle.conditions.specs.Computed.{entryGiven, isGiven}
+use Rattle.conditions.proofs.PassedFacts.{second-is, founded-claimed, acceptable-founded, acceptable-limited, second-way, target-given}
+use Rattle.submission.proofs.theory.ListedTerms.{verifying-below, given-range}
 use Rattle.conditions.proofs.theory.ProgramRun.{program-steps}
 
 -- ---- "A premise is taken from its lowest register": what the lowest registers say of a known term
 module _ {s : List ℕ} {g : List ℕ} (h : Acceptable s) (w : Lowest s (written s (steps s)) g) where
   known-register : (i t : ℕ) → i ≤ steps s → t < 256 → isKnown s i t ≡ true → getD g t 0 ≡ lowest s t
   unfolding lowest
-  known-register i t l b k = sym (ap (λ o. elim o [ none ↦ 0 | some r ↦ r ]) (known-held every s i t l k w b))
+  known-register i t l b k = sym (ap (λ o. elim o [ none ↦ 0 | some r ↦ r ]) (known-held s i t l k w b))
 
   -- the instruction of step i
   module _ {i : ℕ} {a : Step} (x : IsStep s i a) (l : i < steps s) {b : Bool} {f : ℕ} (e : f ≡ getD g (a .p) 0) (q : b ≡ hasOne (a .rule)) where
@@ -68,17 +74,22 @@ module _ {s : List ℕ} (h : Acceptable s) where
   one-of-steps i l = omega (arith, acceptable-limited h .steps)
 
   known-later : (t : ℕ) → isKnown s 0 t ≡ true → isKnown s (steps s) t ≡ true
-  known-later t k = known-stays every s 0 (steps s) t (omega arith) k
+  known-later t k = known-stays s 0 (steps s) t (omega arith) k
+
+  target-held : (t : Target) → claims s ≡ derived t → Held s (given-register t)
+  target-held t v = (given-range (founded-claimed (acceptable-founded h)) t v, target-given h t v)
 
   tested-held : (w : Way) → wayOf (wayAt s) ≡ some w → Held s (row w .tested) × Held s (row w .against)
   tested-held another-step e =
       let z = founded-claimed (acceptable-founded h) in
       let y : z .way ≡ another-step = cc (z .has-way, e) in
-      (z .verifying-below, rw y at (z .in-range))
-  tested-held at-start e = (founded-claimed (acceptable-founded h) .verifying-below, known-later _ (rw e at (second-way h)))
+      (verifying-below z (ap claimsIn e), rw y at (z .in-range))
+  tested-held at-start e = (verifying-below (founded-claimed (acceptable-founded h)) (ap claimsIn e), known-later _ (rw e at (second-way h (ap claimsIn e))))
   tested-held inverse-key e =
-      let k = says-and _ _ (says-true (areInverse s (conclusionAt s (verifying s)) (companion s))) (says-true (isKnown s (steps s) (companion s))) .0 (rw e at (second-way h)) in
-      (founded-claimed (acceptable-founded h) .verifying-below, k .1)
+      let k = says-and _ _ (says-true (areInverse s (conclusionAt s (verifying s)) (companion s))) (says-true (isKnown s (steps s) (companion s))) .0 (rw e at (second-way h (ap claimsIn e))) in
+      (verifying-below (founded-claimed (acceptable-founded h)) (ap claimsIn e), k .1)
+  tested-held guess-derived e = (tt, target-held the-guess (ap claimsIn e))
+  tested-held inverse-derived e = (tt, target-held its-inverse (ap claimsIn e))
 
   -- the row x of the claim's way, read by the code
   module _ {c : Claim} (k : IsClaim s c) (x : RowRead) (e : rowIs x ≡ row (wayIs (c .way))) where
@@ -114,9 +125,39 @@ module _ {s : List ℕ} {g : List ℕ} (h : Acceptable s) (w : Lowest s (written
   pub names-lowest : {r : ℕ} → o ≡ LowestCompanion → r ≡ getD g (c .companion) 0 → r ≡ named s (operandIs o)
   names-lowest e m = rw e (m ∙ rw (k .other) (known-register h w (steps s) _ (omega arith) (h .bytes _) (rw e at held)))
 
+  pub names-guess : {r : ℕ} → o ≡ GuessRegister → r ≡ entries s → r ≡ named s (operandIs o)
+  names-guess e f = rw e f
+
+  pub given-held : {t : TargetRead} → o ≡ GivenRegister t → Held s (given-register (targetIs t))
+  given-held e = subst (λ z. Held s (operandIs z)) e held
+
+  pub names-given : {r : ℕ} {t : TargetRead} → o ≡ GivenRegister t → r ≡ named s (given-register (targetIs t)) → r ≡ named s (operandIs o)
+  names-given e f = rw e f
+
+-- ---- the register of what gives the term claimed
+module _ {s : List ℕ} (h : Acceptable s) {c : Claim} (k : IsClaim s c) (t : TargetRead) (held : Held s (given-register (targetIs t))) where
+  pub entry-named : {r : ℕ} → c .step ≡ knowledgeStep → r ≡ orNone (entryGiven s (targetIs t)) → r ≡ named s (given-register (targetIs t))
+  unfolding isGiven
+  entry-named e f =
+      let x : verifying s ≡ knowledgeStep = sym (k .step) ∙ e in
+      let g : isSome (entryGiven s (targetIs t)) ≡ true = rw (eq-eqb _ _ x) at (held .1) in
+      rw (eq-eqb _ _ x) (f ∙ go (entryGiven s (targetIs t)) g)
+    where
+      go : (o : Option ℕ) → isSome o ≡ true → orNone o ≡ elim o [ none ↦ 0 | some r ↦ r ]
+      go none e = absurd (false≢true e)
+      go (some r) e = refl
+
+  pub step-named : {r : ℕ} → (c .step ≡ knowledgeStep → ⊥) → r ≡ written s (c .step) → r ≡ named s (given-register (targetIs t))
+  step-named d f = rw (← (k .step), ne-eqb _ _ d) f
+
+  pub step-few : (c .step ≡ knowledgeStep → ⊥) → c .step < 128
+  step-few d = ⊎-elim (λ l. rw (k .step) (one-of-steps h _ l)) (λ e. absurd (d (k .step ∙ e))) (held .0)
+
+pub ruleset given-registers = (acceptable-limited, entry-named, step-named, step-few)
+
 pub ruleset instructions = (one-register, two-registers, acceptable-limited)
 
-pub ruleset operands = (acceptable-limited, verifying-few, companion-few, names-verifying, names-companion, names-conclusion, names-lowest)
+pub ruleset operands = (acceptable-limited, verifying-few, companion-few, names-verifying, names-companion, names-conclusion, names-lowest, names-guess, given-held, names-given)
 
 -- ---- the value that holds the program
 module _ (s : List ℕ) {n i : ℕ} (e : n ≡ steps s) where

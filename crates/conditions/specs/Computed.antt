@@ -1,15 +1,15 @@
--- Conditions 3 to 5 as tests of term numbers, and the answer of checking. What each test says of terms is a theorem (`says-reachable`,
--- `second-way-iff`, `says-undone`), and that the answer is as the rows say is another (`check-exact`).
-use mathlib.Core.{Bool.Bool, Bool.false, Bool._&&_, Bool._||_, Bool.not, List.List, Option.Option, Option.none, Option.some}
+-- Conditions 3 to 5, and what takes their place, as tests of term numbers, and the answer of checking. What each test says of terms is a theorem
+-- (`says-reachable`, `second-way-iff`, `says-undone`, `says-given`), and that the answer is as the rows say is another (`check-exact`).
+use mathlib.Core.{Bool.Bool, Bool.false, Bool._&&_, Bool._||_, Bool.not, Bool.cond, List.List, Option.Option, Option.none, Option.some}
 use Prim.Native.Nat.{ℕ}
 use lib.Dec.{eqb}
 use Rattle.term.specs.Computed.{ruleTakesApart}
-use Rattle.submission.specs.{Record.steps, Record.ruleAt, Record.pAt, Record.conclusionAt, Record.verifying, Record.wayAt, Record.companion, Computed.areInverse, Check.Way, Check.another-step, Check.at-start, Check.inverse-key, Check.wayOf, Check.row, Record.secondAt, Record.guess, Record.nameAt, Record.guessed, Computed.checks1to5}
+use Rattle.submission.specs.{Record.entries, Record.steps, Record.entryAt, Record.ruleAt, Record.pAt, Record.conclusionAt, Record.verifying, Record.wayAt, Record.companion, Computed.areInverse, Check.Way, Check.another-step, Check.at-start, Check.inverse-key, Check.guess-derived, Check.inverse-derived, Check.wayOf, Check.Target, Check.Claims, Check.verifier, Check.derived, Check.claims, Check.knowledgeStep, Check.row, Computed.isTarget, Record.secondAt, Record.guess, Record.nameAt, Record.guessed, Computed.checks1to5}
 use Rattle.derivation.specs.Computed.{isKnown, checkSteps}
 use Rattle.deduction.specs.Computed.{entryMarks, isDeducible}
 use Rattle.program.specs.Program.{programLength}
 use Rattle.submission.specs.Computed.{isStale}
-use Rattle.base.specs.{Words.first, Answer.Answer, Answer.done, Computed.Check, Computed.failsAt, Computed.failsIf, Computed.checkRoom, Computed.andThen, Computed.answered}
+use Rattle.base.specs.{Words.first, Answer.Answer, Answer.done, Code.isSome, Computed.Check, Computed.failsAt, Computed.failsIf, Computed.checkRoom, Computed.andThen, Computed.answered}
 
 -- condition 3 is broken: every premise of the verifying step is deducible from the knowledge, in which the guess does not count
 unfoldable pub reachable : List ℕ → Bool
@@ -32,6 +32,8 @@ hasSecondWay s (some another-step) =
     && (not (eqb (ruleAt s (verifying s)) (ruleAt s (companion s))) || not (samePremises s (verifying s) (companion s)))
 hasSecondWay s (some at-start) = isKnown s 0 (conclusionAt s (verifying s))
 hasSecondWay s (some inverse-key) = areInverse s (conclusionAt s (verifying s)) (companion s) && isKnown s (steps s) (companion s)
+hasSecondWay s (some guess-derived) = false
+hasSecondWay s (some inverse-derived) = false
 
 -- a step of the rule r on the first premise p takes apart the very term t that a step of the rule b concludes
 abbrev pub dismantles : ℕ → ℕ → ℕ → ℕ → Bool
@@ -58,14 +60,27 @@ checks8to10 s =
     andThen (failsIf (reachable s) 8 (verifying s))
     (andThen (failsIf (not (hasSecondWay s (wayOf (wayAt s)))) 9 (verifying s)) (failsAt 10 (first (undone s) (steps s))))
 
--- "Order: as numbered, but 6 and 7 are tried together"
-unfoldable pub checks1to10 : List ℕ → Check
-checks1to10 s = andThen (checks1to5 s) (andThen (checkSteps s) (checks8to10 s))
+-- A5: the entry of the knowledge that is the term claimed
+unfoldable pub entryGiven : List ℕ → Target → Option ℕ
+entryGiven s t = first (λ r. isTarget s t (entryAt s r)) (entries s)
+
+-- the named step, or with 255 an entry of the knowledge, gives the term claimed
+unfoldable pub isGiven : List ℕ → Target → Bool
+isGiven s t = cond (eqb (verifying s) knowledgeStep) (isSome (entryGiven s t)) (isTarget s t (conclusionAt s (verifying s)))
+
+-- what is claimed: checks 8 to 10, or 16 not shown: "a step or a 255 that doesn't give the term claimed"
+abbrev pub checkClaim : List ℕ → Claims → Check
+checkClaim s verifier = checks8to10 s
+checkClaim s (derived t) = failsIf (not (isGiven s t)) 16 0
+
+-- "Order: as numbered, but 6 and 7 are tried together"; 16 comes "after 7 and before 11"
+unfoldable pub checksBeforePage : List ℕ → Check
+checksBeforePage s = andThen (checks1to5 s) (andThen (checkSteps s) (checkClaim s (claims s)))
 
 -- the answer of checking a submission with a page of this length; 11 page: "page under 3N+4 bytes", place "length needed"
 unfoldable pub checkAnswer : List ℕ → ℕ → Answer
 checkAnswer s room =
-    answered (andThen (checks1to10 s) (checkRoom (programLength (steps s)) room)) (done (steps s))
+    answered (andThen (checksBeforePage s) (checkRoom (programLength (steps s)) room)) (done (steps s))
 
 -- a wrong guess, as a test (`says-wrong`)
 unfoldable pub isWrongGuess : List ℕ → ℕ → Bool

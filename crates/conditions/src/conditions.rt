@@ -1,7 +1,9 @@
-// Conditions 3 to 5: checks 8 to 10, in this order.
+// What a claim asks for: conditions 3 to 5, checks 8 to 10 in this order; or check 16.
 use base::Stage;
+use crate::given;
 use derivation::Step;
 use submission::Claim;
+use submission::Claims;
 use submission::Way;
 use term::rules;
 ghost use mathlib.Core.Path.{_≡_};
@@ -9,19 +11,20 @@ ghost use mathlib.Core.Bool.{_&&_, not};
 ghost use Rattle.submission.specs.Code.{Limited, IsClaim};
 ghost use Rattle.submission.specs.Record.{steps, pAt, wayAt, verifying, secondAt};
 ghost use Rattle.submission.specs.Computed.{areInverse};
-ghost use Rattle.submission.specs.Check.{wayOf};
+ghost use Rattle.submission.specs.Check.{wayOf, verifier, claims};
 ghost use Rattle.base.specs.Computed.{failsIf, failsAt};
 ghost use Rattle.base.specs.Code.{checkOf};
 ghost use Rattle.derivation.specs.Step.{written};
 ghost use Rattle.derivation.specs.Computed.{isKnown};
 ghost use Rattle.derivation.specs.Code.{Lowest};
-ghost use Rattle.conditions.specs.Computed.{reachable, isPremise, samePremises, hasSecondWay, dismantles as dismantlesBy, undoesStep, undone, checks8to10};
+ghost use Rattle.conditions.specs.Computed.{reachable, isPremise, samePremises, hasSecondWay, dismantles as dismantlesBy, undoesStep, undone, checks8to10, checkClaim};
 ghost use Rattle.conditions.specs.Code.{Founded, otherWay};
 ghost use Rattle.base.specs.Words.{first};
 
 // Condition 3 broken: both premises of the verifying step are deducible from the knowledge, without the guess.
 fn is_reachable(s: &[u8], claim: Claim) -> bool
     requires { ⌜ Founded (now s) ⌝ }
+    requires { ⌜ claims (now s) ≡ verifier ⌝ }
     requires { ⌜ IsClaim (now s) claim ⌝ }
     ensures { λ r. ⌜ r ≡ reachable (now (s .entry)) ⌝ }
 {
@@ -33,6 +36,7 @@ fn is_reachable(s: &[u8], claim: Claim) -> bool
 // Check 8.
 fn check_reachable(s: &[u8], claim: Claim) -> Stage
     requires { ⌜ Founded (now s) ⌝ }
+    requires { ⌜ claims (now s) ≡ verifier ⌝ }
     requires { ⌜ IsClaim (now s) claim ⌝ }
     ensures { λ r. ⌜ checkOf r ≡ failsIf (reachable (now (s .entry))) 8 (verifying (now (s .entry))) ⌝ }
 {
@@ -113,7 +117,7 @@ fn is_inverse_known(s: &[u8], first: &[u8; 256], t: u8, j: u8) -> bool
     false
 }
 
-// Condition 4.
+// Condition 4. Ways k and j have no second way, and are not asked.
 fn has_second_way(s: &[u8], first: &[u8; 256], claim: Claim) -> bool
     requires { ⌜ Limited (now s) ⌝ }
     requires { ⌜ Lowest (now s) (written (now s) (steps (now s))) (now first) ⌝ }
@@ -126,6 +130,8 @@ fn has_second_way(s: &[u8], first: &[u8; 256], claim: Claim) -> bool
         Way::AnotherStep => is_other_way(s, claim.step, claim.companion),
         Way::AtStart => is_known_at_start(s, first, step.conclusion),
         Way::InverseKey => is_inverse_known(s, first, step.conclusion, claim.companion),
+        Way::GuessDerived => false,
+        Way::InverseDerived => false,
     }
 }
 
@@ -203,8 +209,9 @@ fn check_undone(s: &[u8], claim: Claim) -> Stage
 }
 
 // Checks 8 to 10; a refusal goes straight out.
-pub fn check_conditions(s: &[u8], first: &[u8; 256], claim: Claim) -> Stage
+fn check_conditions(s: &[u8], first: &[u8; 256], claim: Claim) -> Stage
     requires { ⌜ Founded (now s) ⌝ }
+    requires { ⌜ claims (now s) ≡ verifier ⌝ }
     requires { ⌜ Lowest (now s) (written (now s) (steps (now s))) (now first) ⌝ }
     requires { ⌜ IsClaim (now s) claim ⌝ }
     ensures { λ r. ⌜ checkOf r ≡ checks8to10 (now (s .entry)) ⌝ }
@@ -218,4 +225,20 @@ pub fn check_conditions(s: &[u8], first: &[u8; 256], claim: Claim) -> Stage
         return second_way;
     };
     check_undone(s, claim)
+}
+
+// The checks of what the claim's way claims: 8 to 10 of a verifier, 16 of what is derived.
+pub fn check_claim(s: &[u8], first: &[u8; 256], claim: Claim) -> Stage
+    requires { ⌜ Founded (now s) ⌝ }
+    requires { ⌜ Lowest (now s) (written (now s) (steps (now s))) (now first) ⌝ }
+    requires { ⌜ IsClaim (now s) claim ⌝ }
+    ensures { λ r. ⌜ checkOf r ≡ checkClaim (now (s .entry)) (claims (now (s .entry))) ⌝ }
+{
+    let way = claim.way;
+    let row = submission::row_of(way);
+    let claims = row.claims;
+    match claims {
+        Claims::Verifier => check_conditions(s, first, claim),
+        Claims::Derived(target) => given::check_given(s, claim, target),
+    }
 }

@@ -1,6 +1,7 @@
-// The verdict on a submission: the five conditions, and the register program of an accepted one.
+// The verdict on a submission: the five conditions, or that the guess or its inverse is derived, and the register program of an accepted one.
 // Promises: every call is total, and its answer and the page's later bytes are what the definitions of specs/ give.
 mod conditions;
+mod given;
 mod page;
 
 use base::Answer;
@@ -60,7 +61,7 @@ fn check_page(s: &[u8], page: &[u8]) -> Stage
     Stage::Passed
 }
 
-// Accepts a submission that passed checks 1 to 10, where the page has room: writes the register program at the page's start.
+// Accepts a submission that passed all checks before 11, where the page has room: writes the register program at the page's start.
 fn accept(s: &[u8], first: &[u8; 256], claim: Claim, page: &mut [u8]) -> Verdict
     requires { ⌜ Acceptable (now s) ⌝ }
     requires { ⌜ Lowest (now s) (written (now s) (steps (now s))) (now first) ⌝ }
@@ -85,12 +86,12 @@ pub fn check(s: &[u8], page: &mut [u8]) -> Verdict
     let Reading::Good(claim) = reading else {
         return verdict_of(submission::stage_of(reading), count);
     };
-    let checked = derivation::check_steps(s);
+    let checked = derivation::check_steps(s, claim);
     let steps = checked.stage;
     let Stage::Passed = steps else {
         return verdict_of(steps, count);
     };
-    let met = conditions::check_conditions(s, &checked.registers.first, claim);
+    let met = conditions::check_claim(s, &checked.registers.first, claim);
     let Stage::Passed = met else {
         return verdict_of(met, count);
     };

@@ -1,15 +1,17 @@
-// The register program of a submission that passed checks 1 to 10, written on the page.
+// The register program of a submission that passed all checks before 11, written on the page.
+use crate::given;
 use program::Instruction;
 use program::Program;
 use program::Test;
 use submission::Claim;
 use submission::Operand;
+use submission::Target;
 use term::rules;
 ghost use mathlib.Core.Path.{_≡_};
 ghost use mathlib.Core.List.{_++_};
 ghost use Prim.Native.Nat.{_≤_, _<_};
 ghost use lib.ListN.{length, drop};
-ghost use Rattle.submission.specs.Code.{Limited, operandIs, IsClaim};
+ghost use Rattle.submission.specs.Code.{Limited, targetIs, operandIs, IsClaim};
 ghost use Rattle.submission.specs.Record.{steps, conclusionAt, wayAt};
 ghost use Rattle.derivation.specs.Step.{written};
 ghost use Rattle.derivation.specs.Code.{Lowest};
@@ -17,7 +19,7 @@ ghost use Rattle.program.specs.Program.{bytesOf, programLength};
 ghost use Rattle.program.specs.Code.{instructionIn, testIn, programIn};
 ghost use Rattle.conditions.specs.Calls.{instruction, named as namedBy, program, testFor};
 ghost use Rattle.conditions.specs.Code.{Acceptable, Held};
-ghost use Rattle.submission.specs.Check.{wayOf};
+ghost use Rattle.submission.specs.Check.{wayOf, given-register};
 
 // The instruction of step i: each premise is taken from its lowest register.
 fn instruction_of(s: &[u8], first: &[u8; 256], i: u8) -> Instruction
@@ -60,6 +62,19 @@ fn conclusion_of(s: &[u8], i: u8) -> u8
     step.conclusion
 }
 
+// The register of what gives the term claimed: the named step's, or with 255 the entry's.
+fn given_register(s: &[u8], claim: Claim, target: Target) -> u8
+    requires { ⌜ Acceptable (now s) ⌝ }
+    requires { ⌜ IsClaim (now s) claim ⌝ }
+    requires { ⌜ Held (now s) (given-register (targetIs target)) ⌝ }
+    ensures { λ r. ⌜ r ≡ namedBy (now (s .entry)) (given-register (targetIs target)) ⌝ }
+{
+    if claim.step == submission::KNOWLEDGE_STEP {
+        return given::entry_given(s, claim, target);
+    }
+    result_register(s, claim.step)
+}
+
 // The register that a test of the claim names.
 fn named(s: &[u8], first: &[u8; 256], claim: Claim, operand: Operand) -> u8
     requires { ⌜ Acceptable (now s) ⌝ }
@@ -73,6 +88,8 @@ fn named(s: &[u8], first: &[u8; 256], claim: Claim, operand: Operand) -> u8
         Operand::CompanionResult => result_register(s, claim.companion),
         Operand::LowestConclusion => derivation::lowest(first, conclusion_of(s, claim.step)),
         Operand::LowestCompanion => derivation::lowest(first, claim.companion),
+        Operand::GuessRegister => submission::entries(s),
+        Operand::GivenRegister(target) => given_register(s, claim, target),
     }
 }
 

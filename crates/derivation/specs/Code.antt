@@ -1,14 +1,14 @@
 -- What the code's records mean in document 01's terms.
-use mathlib.Core.{Path._≡_, Bool.Bool, Bool.cond, List.List}
+use mathlib.Core.{Path._≡_, Bool.cond, List.List}
 use Prim.Native.Nat.{ℕ, _<_}
 use lib.{Dec.eqb, ListN.getD, ListN.set}
 use Rattle.base.specs.{Computed.orNone, Computed.Check, Computed.failsIf, Computed.andThen, Code.checkOf}
-use Rattle.submission.specs.Record.{steps, ruleAt, pAt, qAt, conclusionAt}
+use Rattle.submission.specs.{declared.Claim.Claim, Record.steps, Record.ruleAt, Record.pAt, Record.qAt, Record.conclusionAt, Check.row, Code.wayIs}
 use Rattle.base.specs.declared.Stage.the-variants.{Passed}
 use Rattle.derivation.specs.declared.Step.{Step}
 use Rattle.derivation.specs.declared.Registers.{Registers}
 use Rattle.derivation.specs.declared.StepsAnswer.{StepsAnswer}
-use Rattle.derivation.specs.{Step.written, Computed.lowestAmong, Computed.every, Computed.badStep, Computed.unfounded, Computed.checkSteps}
+use Rattle.derivation.specs.{Step.guessCounts, Step.written, Computed.lowestAmong, Computed.badStep, Computed.unfounded, Computed.checkSteps}
 
 -- r holds step i
 pub record IsStep (s : List ℕ) (i : ℕ) (r : Step) : Type 0 where
@@ -18,20 +18,14 @@ pub record IsStep (s : List ℕ) (i : ℕ) (r : Step) : Type 0 where
   pub conclusion : r .conclusion ≡ conclusionAt s i
 
 -- first has for each term number the lowest of the first n registers that counts and holds the term, 255 for none
-pub record LowestAmong (counts : ℕ → Bool) (s : List ℕ) (n : ℕ) (first : List ℕ) : Type 0 where
+pub record Lowest (s : List ℕ) (n : ℕ) (first : List ℕ) : Type 0 where
   pub few : n < 256
-  pub each : (t : ℕ) → t < 256 → getD first t 0 ≡ orNone (lowestAmong counts s n t)
-
-abbrev pub Lowest : List ℕ → ℕ → List ℕ → Type 0
-Lowest s n first = LowestAmong every s n first
+  pub each : (t : ℕ) → t < 256 → getD first t 0 ≡ orNone (lowestAmong s n t)
 
 -- r is the first n registers: how many they are, and the lowest for each term
-pub record RegisteredAmong (counts : ℕ → Bool) (s : List ℕ) (n : ℕ) (r : Registers) : Type 0 where
+pub record Registered (s : List ℕ) (n : ℕ) (r : Registers) : Type 0 where
   pub used : r .used ≡ n
-  pub first : LowestAmong counts s n (r .first)
-
-abbrev pub Registered : List ℕ → ℕ → Registers → Type 0
-Registered s n r = RegisteredAmong every s n r
+  pub first : Lowest s n (r .first)
 
 -- no register is in use
 pub record Unused (r : Registers) : Type 0 where
@@ -41,6 +35,10 @@ pub record Unused (r : Registers) : Type 0 where
 -- first, once the next register q holds the term t
 unfoldable pub holding : List ℕ → ℕ → ℕ → List ℕ
 holding first t q = cond (eqb (getD first t 0) 255) (set first t q) first
+
+-- first, once the guess's register q is written: it holds the guess where that counts
+abbrev pub withGuess : List ℕ → Claim → ℕ → List ℕ
+withGuess first c q = cond (guessCounts (row (wayIs (c .way)) .claims)) (holding first (c .guess) q) first
 
 -- step i's 6, then its 7
 abbrev pub checkStep : List ℕ → ℕ → Check

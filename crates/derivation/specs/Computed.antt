@@ -1,27 +1,16 @@
 -- Checks 6 and 7 as tests of term numbers. What they say of terms is in `Step`, by the theorems `fits-iff`, `says-unfounded` and `tells-6-and-7`.
-use Rattle.base.specs.{Words.Bool, Words.true, Words._&&_, Words._||_, Words.not, Words.cond, Words.List, Words.Option, Words.none, Words.some, Words.ℕ, Words.eqb, Words.ltb, Words.first, Computed.any, Computed.Check, Computed.passes, Computed.fails}
+use Rattle.base.specs.{Words.Bool, Words._&&_, Words._||_, Words.not, Words.cond, Words.List, Words.Option, Words.none, Words.some, Words.ℕ, Words.eqb, Words.ltb, Words.first, Computed.any, Computed.Check, Computed.passes, Computed.fails}
 use Rattle.term.specs.{Term.Cipher, Term.symmetric, Term.asymmetric, Term.Side, Term.left, Term.right, Term.pair, Term.encryption, Term.Head, Term.make, Term.part, Term.decrypt, Term.compound, Computed.kindOf, Computed.isRule, Number.headOf}
 use Rattle.submission.specs.{Record.terms, Record.steps, Record.kindAt, Record.xAt, Record.yAt, Record.ruleAt, Record.pAt, Record.qAt, Record.secondAt, Record.conclusionAt, Computed.areInverse}
-use Rattle.derivation.specs.Step.{registerTerm, written}
-
--- register r counts, and holds the term t
-abbrev pub holdsTerm : (ℕ → Bool) → List ℕ → ℕ → ℕ → Bool
-holdsTerm counts s t r = counts r && eqb (registerTerm s r) t
+use Rattle.derivation.specs.Step.{written, holdsTerm}
 
 -- the lowest of the first n registers that counts and holds the term t
-abbrev pub lowestAmong : (ℕ → Bool) → List ℕ → ℕ → ℕ → Option ℕ
-lowestAmong counts s n t = first (holdsTerm counts s t) n
+abbrev pub lowestAmong : List ℕ → ℕ → ℕ → Option ℕ
+lowestAmong s n t = first (holdsTerm s t) n
 
 -- a register that counts and is written before step i holds the term t
-abbrev pub knownAmong : (ℕ → Bool) → List ℕ → ℕ → ℕ → Bool
-knownAmong counts s i t = any (holdsTerm counts s t) (written s i)
-
--- every register counts
-abbrev pub every : ℕ → Bool
-every r = true
-
 abbrev pub isKnown : List ℕ → ℕ → ℕ → Bool
-isKnown s i t = knownAmong every s i t
+isKnown s i t = any (holdsTerm s t) (written s i)
 
 abbrev pub isRecord : List ℕ → ℕ → ℕ → ℕ → ℕ → Bool
 isRecord s n kind x y = eqb (kindAt s n) kind && (eqb (xAt s n) x && eqb (yAt s n) y)

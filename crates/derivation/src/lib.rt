@@ -1,25 +1,27 @@
 // The steps of a derivation: checks 6 and 7, and the registers that hold their terms.
 // Promises: every function is total, and its answer is what the definitions of specs/ give.
 use base::Stage;
+use submission::Claim;
+use submission::Claims;
 use submission::Term;
 use term::kinds;
 use term::rules;
 ghost use mathlib.Core.Path.{_≡_};
 ghost use mathlib.Core.Bool.{cond, _&&_};
-ghost use Prim.Native.Nat.{_+_, _<_};
+ghost use Prim.Native.Nat.{_<_};
 ghost use lib.Dec.{eqb};
 ghost use lib.ListN.{getD};
 ghost use Rattle.term.specs.Term.{asymmetric, pair, encryption, compound};
 ghost use Rattle.term.specs.Number.{shapeOf, rules as ruleCount, headOf, hasOne};
 ghost use Rattle.term.specs.Computed.{kindOf};
 ghost use Rattle.term.specs.Code.{builderOf};
-ghost use Rattle.submission.specs.Code.{Limited};
-ghost use Rattle.submission.specs.Record.{entries};
+ghost use Rattle.submission.specs.Code.{Limited, wayIs, IsClaim};
+ghost use Rattle.submission.specs.Check.{row};
 ghost use Rattle.submission.specs.Computed.{areInverse};
 ghost use Rattle.base.specs.Code.{checkOf};
-ghost use Rattle.derivation.specs.Step.{written};
+ghost use Rattle.derivation.specs.Step.{guessCounts, written};
 ghost use Rattle.derivation.specs.Computed.{follows as followsBy, badStep, unfounded};
-ghost use Rattle.derivation.specs.Code.{IsStep, Lowest, Registered, Unused, holding, checkStep, StepsChecked};
+ghost use Rattle.derivation.specs.Code.{IsStep, Lowest, Registered, Unused, holding, withGuess, checkStep, StepsChecked};
 
 // A step's record.
 pub struct Step {
@@ -164,18 +166,41 @@ pub fn lowest(first: &[u8; 256], t: u8) -> u8
     first[base::wide(t)]
 }
 
+// Whether the guess counts as known: where the claim's way claims a verifier.
+fn guess_counts(claim: Claim) -> bool
+    ensures { λ r. ⌜ r ≡ guessCounts (row (wayIs (claim .way)) .claims) ⌝ }
+{
+    let way = claim.way;
+    let row = submission::row_of(way);
+    let claims = row.claims;
+    match claims {
+        Claims::Verifier => true,
+        Claims::Derived(_) => false,
+    }
+}
+
+// Register q is the guess's: it holds the guess where that counts.
+fn hold_guess(first: &mut [u8; 256], claim: Claim, q: u8)
+    ensures { λ _. ⌜ now (first .exit) ≡ withGuess (now (first .entry)) claim q ⌝ }
+{
+    if !guess_counts(claim) {
+        return;
+    }
+    hold(first, claim.guess, q);
+}
+
 // The registers of the knowledge, then the guess's.
-pub fn initial(s: &[u8]) -> Registers
+pub fn initial(s: &[u8], claim: Claim) -> Registers
     requires { ⌜ Limited (now s) ⌝ }
-    ensures { λ r. ⌜ Registered (now (s .entry)) (entries (now (s .entry)) + 1) r ⌝ }
+    requires { ⌜ IsClaim (now s) claim ⌝ }
+    ensures { λ r. ⌜ Registered (now (s .entry)) (written (now (s .entry)) 0) r ⌝ }
 {
     let mut r = Registers::new();
     let n = submission::entries(s);
     for i in 0..n {
         hold(&mut r.first, submission::entry_at(s, i), i);
     }
-    let claim = submission::claim_bytes(s);
-    hold(&mut r.first, claim.guess, n);
+    hold_guess(&mut r.first, claim, n);
     r.used = n + 1;
     r
 }
@@ -218,12 +243,13 @@ pub struct StepsAnswer {
     pub stage: Stage,
 }
 
-// Checks 6 and 7, tried together, step by step.
-pub fn check_steps(s: &[u8]) -> StepsAnswer
+// Checks 6 and 7 from the registers at the start on.
+fn check_from(s: &[u8], start: Registers) -> StepsAnswer
     requires { ⌜ Limited (now s) ⌝ }
+    requires { ⌜ Registered (now s) (written (now s) 0) start ⌝ }
     ensures { λ r. ⌜ StepsChecked (now (s .entry)) r ⌝ }
 {
-    let mut r = initial(s);
+    let mut r = start;
     let n = submission::steps(s);
     for i in 0..n {
         let stage = check_step(s, &r.first, i);
@@ -242,4 +268,13 @@ pub fn check_steps(s: &[u8]) -> StepsAnswer
         registers: r,
         stage: Stage::Passed,
     }
+}
+
+// Checks 6 and 7, tried together, step by step.
+pub fn check_steps(s: &[u8], claim: Claim) -> StepsAnswer
+    requires { ⌜ Limited (now s) ⌝ }
+    requires { ⌜ IsClaim (now s) claim ⌝ }
+    ensures { λ r. ⌜ StepsChecked (now (s .entry)) r ⌝ }
+{
+    check_from(s, initial(s, claim))
 }

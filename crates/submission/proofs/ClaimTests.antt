@@ -3,12 +3,13 @@ use mathlib.Core.Path.{_≡_, sym, ap, ap₂, _∙_, subst}
 use mathlib.Core.Bool.{Bool, true, false, and-false, not}
 use mathlib.Core.List.{List}
 use mathlib.Core.Option.{none}
-use Prim.Native.Nat.{ℕ}
+use Prim.Native.Nat.{ℕ, _≤_, _<_}
 use native.Mathlib.Omega.{arith}
 use lib.Dec.{eqb, ltb}
-use borrow.Author.Tests.{ne-eqb}
+use borrow.Author.Tests.{ne-eqb, lt-ltb, le-ltb}
 use Rattle.base.specs.Computed.{passes, fails, failsIf}
 use Rattle.term.specs.Computed.{isAtomic}
+use Rattle.term.specs.Term.{asymmetric, isKeyFor}
 use Rattle.term.specs.Number.{shapeOf}
 use Rattle.submission.specs.declared.Term.{Term}
 use Rattle.submission.specs.declared.Claim.{Claim}
@@ -17,7 +18,11 @@ use Rattle.submission.specs.declared.Letter.{Letter}
 use Rattle.submission.specs.declared.Letter.the-variants.{Stands, Stranger}
 use Rattle.submission.specs.declared.Way.{Way as WayRead}
 use Rattle.submission.specs.declared.Range.{Range as RangeRead}
-use Rattle.submission.specs.declared.Range.the-variants.{Step, Term as TermNumber, Zero}
+use Rattle.submission.specs.declared.Range.the-variants.{Step, Term as TermNumber, Zero, StepOrKnowledge}
+use Rattle.submission.specs.declared.Target.{Target as TargetRead}
+use Rattle.submission.specs.declared.Target.the-variants.{Guess, Inverse}
+use Rattle.submission.specs.declared.Claims.{Claims as ClaimsRead}
+use Rattle.submission.specs.declared.Claims.the-variants.{Verifier, Derived}
 use Rattle.submission.specs.declared.Row.{Row as RowRead}
 use Rattle.submission.specs.declared.Reading.{Reading}
 use Rattle.submission.specs.declared.Reading.the-variants.{Good, Refused}
@@ -25,9 +30,9 @@ use Rattle.base.specs.declared.Stage.{Stage}
 use Rattle.base.specs.declared.Stage.the-variants as stage
 use Rattle.base.specs.Code.{checkOf}
 use Rattle.submission.specs.Record.{terms, steps, kindAt, guess, verifying, wayAt}
-use Rattle.submission.specs.Check.{wayOf, row}
-use Rattle.submission.specs.Computed.{inRange, claimFits, goodClaim, checks1to4, checks1to5}
-use Rattle.submission.specs.Code.{IsTerm, wayIs, letterIs, rangeIs, rowIs, IsClaimBytes, IsClaim, readingCheck, ReadingIs}
+use Rattle.submission.specs.Check.{wayOf, step-or-knowledge, knowledgeStep, row}
+use Rattle.submission.specs.Computed.{inRange, guessFits, claimFits, goodClaim, checks1to4, checks1to5}
+use Rattle.submission.specs.Code.{IsTerm, wayIs, letterIs, claimsIs, rangeIs, rowIs, IsClaimBytes, IsClaim, readingCheck, ReadingIs}
 
 refused-not-good : {A : Type 0} {number place : ℕ} {c : Claim} → Refused number place ≡ Good c → A
 refused-not-good e = absurd (let z : _≡_ {A = ℕ} 0 1 = cc in omega arith)
@@ -36,9 +41,9 @@ good-same : {c d : Claim} → Good c ≡ Good d → c ≡ d
 good-same e = cc
 
 -- ---- the letters
-pub no-way : {l : ℕ} → (l ≡ 0x61 → ⊥) → (l ≡ 0x62 → ⊥) → (l ≡ 0x63 → ⊥) → none ≡ wayOf l
+pub no-way : {l : ℕ} → (l ≡ 0x61 → ⊥) → (l ≡ 0x62 → ⊥) → (l ≡ 0x63 → ⊥) → (l ≡ 0x6B → ⊥) → (l ≡ 0x6A → ⊥) → none ≡ wayOf l
 unfolding wayOf
-no-way u v w = rw (ne-eqb _ _ u, ne-eqb _ _ v, ne-eqb _ _ w)
+no-way u v w x y = rw (ne-eqb _ _ u, ne-eqb _ _ v, ne-eqb _ _ w, ne-eqb _ _ x, ne-eqb _ _ y)
 
 -- ---- the ranges
 module _ (s : List ℕ) (n : ℕ) {m : ℕ} {r : RangeRead} where
@@ -51,21 +56,50 @@ module _ (s : List ℕ) (n : ℕ) {m : ℕ} {r : RangeRead} where
 pub only-zero : (s : List ℕ) (n : ℕ) {r : RangeRead} → r ≡ Zero → eqb n 0 ≡ inRange s (rangeIs r) n
 only-zero s n q = rw q
 
+pub step-or-entry : (s : List ℕ) (n : ℕ) {r : RangeRead} {b : Bool} → r ≡ StepOrKnowledge → b ≡ inRange s step-or-knowledge n → b ≡ inRange s (rangeIs r) n
+step-or-entry s n q e = rw q e
+
+module _ (s : List ℕ) (n : ℕ) {m : ℕ} (e : m ≡ steps s) where
+  pub is-step : n < m → true ≡ inRange s step-or-knowledge n
+  is-step l = rw (← e, lt-ltb n m l)
+
+  pub is-entry : m ≤ n → eqb n knowledgeStep ≡ inRange s step-or-knowledge n
+  is-entry l = rw (← e, le-ltb n m l)
+
+-- ---- the guess
+module _ (s : List ℕ) {k : ClaimsRead} where
+  pub any-guess : k ≡ Verifier → true ≡ guessFits s (claimsIs k)
+  any-guess e = rw e
+
+  module _ {t : TargetRead} (e : k ≡ Derived t) where
+    pub atom-guess : t ≡ Guess → true ≡ guessFits s (claimsIs k)
+    atom-guess f = rw (e, f)
+
+    pub key-guess : {c : Claim} {g : Term} {b : Bool} → t ≡ Inverse → IsClaim s c → IsTerm s (c .guess) g → b ≡ isKeyFor asymmetric (shapeOf (g .kind)) → b ≡ guessFits s (claimsIs k)
+    key-guess f p q d = rw (e, f, ← (p .guessed), ← (q .kind)) d
+
 -- ---- the rows: w was found to be v, and x is the row of v
 pub row-is : (x : RowRead) {w v : WayRead} → w ≡ v → rowIs x ≡ row (wayIs v) → rowIs x ≡ row (wayIs w)
 row-is x e f = rw e f
 
 -- ---- the claim: its row x of the table, read by the code
 module _ {s : List ℕ} {c : Claim} (p : IsClaim s c) where
-  module _ (x : RowRead) (e : rowIs x ≡ row (wayIs (c .way))) {b : Bool} (f : b ≡ inRange s (rangeIs (x .step)) (c .step)) where
-    step-fits : b ≡ inRange s (row (wayIs (c .way)) .step) (verifying s)
-    step-fits = f ∙ ap₂ (inRange s) (ap (λ z. z .step) e) (p .step)
+  module _ (x : RowRead) (e : rowIs x ≡ row (wayIs (c .way))) {d : Bool} (h : d ≡ guessFits s (claimsIs (x .claims))) where
+    guess-fits : d ≡ guessFits s (row (wayIs (c .way)) .claims)
+    guess-fits = h ∙ ap (λ z. guessFits s (z .claims)) e
 
-    pub step-out : b ≡ false → false ≡ claimFits s (wayOf (wayAt s))
-    step-out q = rw (p .way, ← step-fits, q)
+    pub guess-out : d ≡ false → false ≡ claimFits s (wayOf (wayAt s))
+    guess-out u = rw (p .way, ← guess-fits, u)
 
-    pub companion-decides : {r : Bool} → b ≡ true → r ≡ inRange s (rangeIs (x .companion)) (c .companion) → r ≡ claimFits s (wayOf (wayAt s))
-    companion-decides q g = rw (p .way, ← step-fits, q) (g ∙ ap₂ (inRange s) (ap (λ z. z .companion) e) (p .other))
+    module _ (u : d ≡ true) {b : Bool} (f : b ≡ inRange s (rangeIs (x .step)) (c .step)) where
+      step-fits : b ≡ inRange s (row (wayIs (c .way)) .step) (verifying s)
+      step-fits = f ∙ ap₂ (inRange s) (ap (λ z. z .step) e) (p .step)
+
+      pub step-out : b ≡ false → false ≡ claimFits s (wayOf (wayAt s))
+      step-out q = rw (p .way, ← guess-fits, u, ← step-fits, q)
+
+      pub companion-decides : {r : Bool} → b ≡ true → r ≡ inRange s (rangeIs (x .companion)) (c .companion) → r ≡ claimFits s (wayOf (wayAt s))
+      companion-decides q g = rw (p .way, ← guess-fits, u, ← step-fits, q) (g ∙ ap₂ (inRange s) (ap (λ z. z .companion) e) (p .other))
 
   pub guess-atom : {t : Term} {b r : Bool} → IsTerm s (c .guess) t → b ≡ isAtomic (shapeOf (t .kind)) → b ≡ r → isAtomic (shapeOf (kindAt s (guess s))) ≡ r
   guess-atom q e h = rw (← (p .guessed), ← (q .kind), ← e) h

@@ -5,17 +5,21 @@ use Rattle.submission.specs.declared.Term.{Term}
 use Rattle.submission.specs.declared.Claim.{Claim}
 use Rattle.submission.specs.declared.ClaimBytes.{ClaimBytes}
 use Rattle.submission.specs.declared.Way.{Way as WayRead}
-use Rattle.submission.specs.declared.Way.the-variants.{AnotherStep, AtStart, InverseKey}
+use Rattle.submission.specs.declared.Way.the-variants.{AnotherStep, AtStart, InverseKey, GuessDerived, InverseDerived}
 use Rattle.submission.specs.declared.Letter.{Letter}
 use Rattle.submission.specs.declared.Letter.the-variants.{Stands, Stranger}
 use Rattle.submission.specs.declared.Range.{Range as RangeRead}
-use Rattle.submission.specs.declared.Range.the-variants.{Step, Term as TermNumber, Zero}
+use Rattle.submission.specs.declared.Range.the-variants.{Step, Term as TermNumber, Zero, StepOrKnowledge}
+use Rattle.submission.specs.declared.Target.{Target as TargetRead}
+use Rattle.submission.specs.declared.Target.the-variants.{Guess, Inverse}
+use Rattle.submission.specs.declared.Claims.{Claims as ClaimsRead}
+use Rattle.submission.specs.declared.Claims.the-variants.{Verifier, Derived}
 use Rattle.submission.specs.declared.Operand.{Operand as OperandRead}
-use Rattle.submission.specs.declared.Operand.the-variants.{VerifyingResult, CompanionResult, LowestConclusion, LowestCompanion}
+use Rattle.submission.specs.declared.Operand.the-variants.{VerifyingResult, CompanionResult, LowestConclusion, LowestCompanion, GuessRegister, GivenRegister}
 use Rattle.submission.specs.declared.Row.{Row as RowRead}
 use Rattle.submission.specs.declared.Reading.{Reading}
 use Rattle.submission.specs.declared.Reading.the-variants.{Good, Refused}
-use Rattle.submission.specs.{Check.Way, Check.another-step, Check.at-start, Check.inverse-key, Check.wayOf, Check.Range, Check.step-number, Check.term-number, Check.zero-only, Check.Operand, Check.verifying-result, Check.companion-result, Check.lowest-conclusion, Check.lowest-companion, Check.Row, Record.start, Record.count, Record.terms, Record.kindAt, Record.xAt, Record.yAt, Record.guess, Record.verifying, Record.wayAt, Record.companion, Record.InKnowledge, Computed.checks1to4, Computed.checks1to5}
+use Rattle.submission.specs.{Check.Way, Check.another-step, Check.at-start, Check.inverse-key, Check.guess-derived, Check.inverse-derived, Check.wayOf, Check.Target, Check.the-guess, Check.its-inverse, Check.Claims, Check.verifier, Check.derived, Check.Range, Check.step-number, Check.term-number, Check.zero-only, Check.step-or-knowledge, Check.Operand, Check.verifying-result, Check.companion-result, Check.lowest-conclusion, Check.lowest-companion, Check.guess-register, Check.given-register, Check.Row, Record.start, Record.count, Record.terms, Record.kindAt, Record.xAt, Record.yAt, Record.guess, Record.verifying, Record.wayAt, Record.companion, Record.InKnowledge, Computed.checks1to4, Computed.checks1to5}
 use Rattle.term.specs.Term as words
 use Rattle.term.specs.Code.{relationIs}
 use Rattle.base.specs.{Words.Bytes, Computed.Check, Computed.passes, Computed.fails}
@@ -50,6 +54,8 @@ abbrev pub wayIs : WayRead → Way
 wayIs AnotherStep = another-step
 wayIs AtStart = at-start
 wayIs InverseKey = inverse-key
+wayIs GuessDerived = guess-derived
+wayIs InverseDerived = inverse-derived
 
 abbrev pub letterIs : Letter → Option Way
 letterIs Stranger = none
@@ -59,16 +65,28 @@ abbrev pub rangeIs : RangeRead → Range
 rangeIs Step = step-number
 rangeIs TermNumber = term-number
 rangeIs Zero = zero-only
+rangeIs StepOrKnowledge = step-or-knowledge
+
+abbrev pub targetIs : TargetRead → Target
+targetIs Guess = the-guess
+targetIs Inverse = its-inverse
+
+abbrev pub claimsIs : ClaimsRead → Claims
+claimsIs Verifier = verifier
+claimsIs (Derived t) = derived (targetIs t)
 
 abbrev pub operandIs : OperandRead → Operand
 operandIs VerifyingResult = verifying-result
 operandIs CompanionResult = companion-result
 operandIs LowestConclusion = lowest-conclusion
 operandIs LowestCompanion = lowest-companion
+operandIs GuessRegister = guess-register
+operandIs (GivenRegister t) = given-register (targetIs t)
 
 abbrev pub rowIs : RowRead → Row
 rowIs r =
     record {
+      claims = claimsIs (r .claims);
       step = rangeIs (r .step);
       companion = rangeIs (r .companion);
       companionKept = r .kept;

@@ -1,7 +1,7 @@
 -- Checks 1 to 5 and tests of terms; what they say is proved: `tells-1-to-5`, `inverse-iff`, `says-stale`.
 use Rattle.base.specs.{Words.Bool, Words.true, Words.false, Words._&&_, Words._||_, Words.not, Words.cond, Words.List, Words.Option, Words.none, Words.some, Words.ℕ, Words._+_, Words._*_, Words.eqb, Words.ltb, Words.length, Words.first, Words.byte, Computed.any, Computed.Check, Computed.failsAt, Computed.failsIf, Computed.andThen}
-use Rattle.term.specs.{Term.second, Term.unary, Term.Shape, Term.atomic, Term.compound, Term.Term, Term.inverse, Number.shapeOf, Computed.takes, Computed.isAtomic, Computed.inverseKinds, Computed.isPart}
-use Rattle.submission.specs.{Record.letter, Record.count, Record.start, Record.least, Record.most, Record.terms, Record.entries, Record.steps, Record.kindAt, Record.xAt, Record.yAt, Record.entryAt, Record.guess, Record.verifying, Record.wayAt, Record.companion, Record.term, Check.Way, Check.wayOf, Check.Range, Check.step-number, Check.term-number, Check.zero-only, Check.row}
+use Rattle.term.specs.{Term.asymmetric, Term.isKeyFor, Term.second, Term.unary, Term.Shape, Term.atomic, Term.compound, Term.Term, Term.inverse, Number.shapeOf, Computed.takes, Computed.isAtomic, Computed.inverseKinds, Computed.isPart}
+use Rattle.submission.specs.{Record.letter, Record.count, Record.start, Record.least, Record.most, Record.terms, Record.entries, Record.steps, Record.kindAt, Record.xAt, Record.yAt, Record.entryAt, Record.guess, Record.verifying, Record.wayAt, Record.companion, Record.term, Check.Way, Check.wayOf, Check.Target, Check.the-guess, Check.its-inverse, Check.Claims, Check.verifier, Check.derived, Check.Range, Check.step-number, Check.term-number, Check.zero-only, Check.step-or-knowledge, Check.knowledgeStep, Check.row}
 
 -- 1 contents: "under 16 bytes; a letter, start or the length wrong"
 unfoldable pub badContents : List ℕ → Bool
@@ -41,11 +41,18 @@ abbrev pub inRange : List ℕ → Range → ℕ → Bool
 inRange s step-number n = ltb n (steps s)
 inRange s term-number n = ltb n (terms s)
 inRange s zero-only n = eqb n 0
+inRange s step-or-knowledge n = ltb n (steps s) || eqb n knowledgeStep
 
--- the step and the companion are in range for the way, and the way is one
+-- A5: where the inverse of the guess is claimed, the guess is a key
+abbrev pub guessFits : List ℕ → Claims → Bool
+guessFits s verifier = true
+guessFits s (derived the-guess) = true
+guessFits s (derived its-inverse) = isKeyFor asymmetric (shapeOf (kindAt s (guess s)))
+
+-- the way is one; the guess fits it, and the step and the companion are in range for it
 abbrev pub claimFits : List ℕ → Option Way → Bool
 claimFits s none = false
-claimFits s (some w) = inRange s (row w .step) (verifying s) && inRange s (row w .companion) (companion s)
+claimFits s (some w) = guessFits s (row w .claims) && (inRange s (row w .step) (verifying s) && inRange s (row w .companion) (companion s))
 
 -- 5 claim: "guess not below T or no atom; step or companion out of range ..; way"
 unfoldable pub goodClaim : List ℕ → Bool
@@ -65,6 +72,11 @@ checks1to5 s = andThen (checks1to4 s) (failsIf (not (goodClaim s)) 5 0)
 -- the terms of two numbers are keys and each other's inverse
 unfoldable pub areInverse : List ℕ → ℕ → ℕ → Bool
 areInverse s i j = inverseKinds (kindAt s i) (kindAt s j) && (eqb (xAt s i) (xAt s j) && eqb (yAt s i) (yAt s j))
+
+-- A5: term n is the one derived, "the guess, or the inverse"
+abbrev pub isTarget : List ℕ → Target → ℕ → Bool
+isTarget s the-guess n = eqb n (guess s)
+isTarget s its-inverse n = areInverse s (guess s) n
 
 -- x is part of a message in the knowledge
 unfoldable pub isKnownPart : List ℕ → Term → Bool

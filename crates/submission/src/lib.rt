@@ -15,11 +15,11 @@ ghost use lib.ListN.{getD};
 ghost use Rattle.base.specs.Words.{first, byte as byteAt};
 ghost use Rattle.term.specs.Number.{shapeOf};
 ghost use Rattle.submission.specs.Record.{letter, count as countIn, start, terms as termCount, entries as entryCount, steps as stepCount, kindAt, xAt, yAt, entryAt, wayAt};
-ghost use Rattle.submission.specs.Computed.{areInverse, badContents, checkLimits, inRange, claimFits, shapeFits, sameRecord, badTerm, badKnowledge, goodClaim, checks1to4, checks1to5};
-ghost use Rattle.submission.specs.Check.{wayOf, row};
+ghost use Rattle.submission.specs.Computed.{areInverse, badContents, checkLimits, inRange, guessFits, claimFits, shapeFits, sameRecord, badTerm, badKnowledge, goodClaim, checks1to4, checks1to5};
+ghost use Rattle.submission.specs.Check.{wayOf, step-or-knowledge, row};
 ghost use Rattle.base.specs.Computed.{any, failsAt, failsIf};
 ghost use Rattle.base.specs.Code.{checkOf, Noted, Chained};
-ghost use Rattle.submission.specs.Code.{Starts, IsTerm, wayIs, letterIs, rangeIs, rowIs, IsClaimBytes, IsClaim, readingCheck, ReadingIs, chainedBy};
+ghost use Rattle.submission.specs.Code.{Starts, IsTerm, wayIs, letterIs, claimsIs, rangeIs, rowIs, IsClaimBytes, IsClaim, readingCheck, ReadingIs, chainedBy};
 
 // Where the first body starts.
 pub const CONTENTS_SIZE: usize = 16;
@@ -382,11 +382,14 @@ pub fn check_knowledge(s: &[u8]) -> Stage
 
 // ---- The ways of a claim.
 
-// Way a: another step concludes the same term; way b: it is known at the start; way c: its inverse key is known.
+// Way a: another step concludes the same term; way b: it is known at the start; way c: its inverse key is known; way k: the guess is
+// derived; way j: its inverse is.
 pub enum Way {
     AnotherStep,
     AtStart,
     InverseKey,
+    GuessDerived,
+    InverseDerived,
 }
 
 // What a letter stands for.
@@ -402,27 +405,50 @@ fn way_of(letter: u8) -> Letter
         b'a' => Letter::Stands(Way::AnotherStep),
         b'b' => Letter::Stands(Way::AtStart),
         b'c' => Letter::Stands(Way::InverseKey),
+        b'k' => Letter::Stands(Way::GuessDerived),
+        b'j' => Letter::Stands(Way::InverseDerived),
         _ => Letter::Stranger,
     }
 }
 
-// What a number of the claim may be: a step's, a term's, or 0 only.
+// What is derived: the guess, or its inverse.
+pub enum Target {
+    Guess,
+    Inverse,
+}
+
+// What a way claims: a verifier, or that the guess or its inverse is derived, and then the guess doesn't count as known.
+pub enum Claims {
+    Verifier,
+    Derived(Target),
+}
+
+// What a number of the claim may be: a step's, a term's, 0 only, or a step's or KNOWLEDGE_STEP.
 pub enum Range {
     Step,
     Term,
     Zero,
+    StepOrKnowledge,
 }
 
-// A register that the test names: of the verifying step or of the companion step, or the lowest that holds the conclusion or the companion.
+// The step number that stands for an entry of the knowledge.
+pub const KNOWLEDGE_STEP: u8 = 255;
+
+// A register that the test names: of the verifying step or of the companion step, the lowest that holds the conclusion or the companion, the
+// guess's, or that of what gives the term claimed.
 pub enum Operand {
     VerifyingResult,
     CompanionResult,
     LowestConclusion,
     LowestCompanion,
+    GuessRegister,
+    GivenRegister(Target),
 }
 
-// A way's row of the table: the ranges of the step and of the companion, whether the companion must undo nothing, and the test.
+// A way's row of the table: what is claimed, the ranges of the step and of the companion, whether the companion must undo nothing, and the
+// test.
 pub struct Row {
+    pub claims: Claims,
     pub step: Range,
     pub companion: Range,
     pub kept: bool,
@@ -436,6 +462,7 @@ pub fn row_of(way: Way) -> Row
 {
     match way {
         Way::AnotherStep => Row {
+            claims: Claims::Verifier,
             step: Range::Step,
             companion: Range::Step,
             kept: true,
@@ -444,6 +471,7 @@ pub fn row_of(way: Way) -> Row
             against: Operand::CompanionResult,
         },
         Way::AtStart => Row {
+            claims: Claims::Verifier,
             step: Range::Step,
             companion: Range::Zero,
             kept: false,
@@ -452,12 +480,31 @@ pub fn row_of(way: Way) -> Row
             against: Operand::LowestConclusion,
         },
         Way::InverseKey => Row {
+            claims: Claims::Verifier,
             step: Range::Step,
             companion: Range::Term,
             kept: false,
             relation: Relation::Inverse,
             tested: Operand::VerifyingResult,
             against: Operand::LowestCompanion,
+        },
+        Way::GuessDerived => Row {
+            claims: Claims::Derived(Target::Guess),
+            step: Range::StepOrKnowledge,
+            companion: Range::Zero,
+            kept: false,
+            relation: Relation::Equal,
+            tested: Operand::GuessRegister,
+            against: Operand::GivenRegister(Target::Guess),
+        },
+        Way::InverseDerived => Row {
+            claims: Claims::Derived(Target::Inverse),
+            step: Range::StepOrKnowledge,
+            companion: Range::Zero,
+            kept: false,
+            relation: Relation::Inverse,
+            tested: Operand::GuessRegister,
+            against: Operand::GivenRegister(Target::Inverse),
         },
     }
 }
@@ -478,6 +525,16 @@ pub enum Reading {
     Refused { number: u8, place: u16 },
 }
 
+// Whether n numbers a step, or is the number for an entry of the knowledge.
+fn is_step_or_knowledge(s: &[u8], n: u8) -> bool
+    ensures { λ r. ⌜ r ≡ inRange (now (s .entry)) step-or-knowledge n ⌝ }
+{
+    if n < steps(s) {
+        return true;
+    }
+    n == KNOWLEDGE_STEP
+}
+
 // Whether n is in the range.
 fn is_in_range(s: &[u8], range: Range, n: u8) -> bool
     ensures { λ r. ⌜ r ≡ inRange (now (s .entry)) (rangeIs range) n ⌝ }
@@ -488,18 +545,38 @@ fn is_in_range(s: &[u8], range: Range, n: u8) -> bool
         Range::Step => n < step_count,
         Range::Term => n < term_count,
         Range::Zero => n == 0,
+        Range::StepOrKnowledge => is_step_or_knowledge(s, n),
     }
 }
 
-// Whether the step and the companion are in range for the claim's way.
+// Whether the guess fits what is claimed: where it is the inverse, the guess is a key.
+fn guess_fits(s: &[u8], c: Claim, claims: Claims) -> bool
+    requires { ⌜ IsClaim (now s) c ⌝ }
+    ensures { λ r. ⌜ r ≡ guessFits (now (s .entry)) (claimsIs claims) ⌝ }
+{
+    let Claims::Derived(target) = claims else {
+        return true;
+    };
+    let guess = term_at(s, c.guess);
+    match target {
+        Target::Guess => true,
+        Target::Inverse => kinds::is_key(guess.kind),
+    }
+}
+
+// Whether the guess fits the claim's way, and the step and the companion are in range for it.
 fn claim_fits(s: &[u8], c: Claim) -> bool
     requires { ⌜ IsClaim (now s) c ⌝ }
     ensures { λ r. ⌜ r ≡ claimFits (now (s .entry)) (wayOf (wayAt (now (s .entry)))) ⌝ }
 {
     let way = c.way;
     let row = row_of(way);
+    let claims = row.claims;
     let step = row.step;
     let companion = row.companion;
+    if !guess_fits(s, c, claims) {
+        return false;
+    }
     if is_in_range(s, step, c.step) {
         return is_in_range(s, companion, c.companion);
     }

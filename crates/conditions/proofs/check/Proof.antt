@@ -1,5 +1,5 @@
 -- `check` meets its contract: a law for each stage that passed or refused, in the order of the checks.
-use Rattle.conditions.proofs.CheckReturns.{reading-out, reading-limited, reading-claim, steps-out, steps-lowest, steps-founded, conditions-out, met-acceptable}
+use Rattle.conditions.proofs.CheckReturns.{reading-out, reading-limited, reading-claim, steps-out, steps-lowest, steps-founded, claim-out, met-acceptable}
 use borrow.Author.Needs.{needs}
 use Rattle.conditions.proofs.check.Statement.{statement}
 use Rattle.conditions.proofs.check.Tie as tie
@@ -26,7 +26,7 @@ returns : tie.Need-returns
 returns c = search reading-out
 
 check-steps-requires : tie.Need-check-steps-requires
-check-steps-requires c κs = search reading-limited
+check-steps-requires c κs = (search reading-limited, search reading-claim)
 
 enum-told-2 : tie.Need-enum-told-2
 enum-told-2 c = search needs
@@ -40,8 +40,8 @@ verdict-of-requires-2 c κs = search needs
 returns-2 : tie.Need-returns-2
 returns-2 c = search steps-out
 
-check-conditions-requires : tie.Need-check-conditions-requires
-check-conditions-requires c κs = (search steps-founded, (search steps-lowest, search reading-claim))
+check-claim-requires : tie.Need-check-claim-requires
+check-claim-requires c κs = (search steps-founded, (search steps-lowest, search reading-claim))
 
 enum-told-4 : tie.Need-enum-told-4
 enum-told-4 c = search needs
@@ -53,10 +53,10 @@ verdict-of-requires-3 : tie.Need-verdict-of-requires-3
 verdict-of-requires-3 c κs = search needs
 
 returns-3 : tie.Need-returns-3
-returns-3 c = search conditions-out
+returns-3 c = search claim-out
 
 accept-requires : tie.Need-accept-requires
-accept-requires c κs = (met-acceptable (search steps-founded) (c .before .before .before .before .before .check-conditions .ensures) (c .before .before .before .enum-told4 .given .1), (search steps-lowest, search reading-claim))
+accept-requires c κs = (met-acceptable (search steps-founded) (c .before .before .before .before .before .check-claim .ensures) (c .before .before .before .enum-told4 .given .1), (search steps-lowest, search reading-claim))
 
 same-length : tie.Need-same-length
 same-length c = search needs
@@ -80,7 +80,7 @@ check-spec =
     enum-told-3
     verdict-of-requires-2
     returns-2
-    check-conditions-requires
+    check-claim-requires
     enum-told-4
     enum-told-5
     verdict-of-requires-3

@@ -1,17 +1,17 @@
 -- `initial` writes the knowledge's registers in order, then the guess's. The loop's invariant: the first i registers are written.
 use Prim.Native.Nat.{_-_, _≤_}
 use native.Mathlib.Omega.{arith}
-use borrow.Author.Needs.{needs}
 use Rattle.derivation.specs.Code.{Lowest}
 use Rattle.derivation.proofs.RegistersHeld.{lowest-none, entry-written, guess-written}
+use borrow.Author.Needs.{needs}
 use Rattle.derivation.proofs.initial.Statement.{statement}
 use Rattle.derivation.proofs.initial.Tie as tie
 
 abbrev Inv-loop : tie.InvT-loop
-Inv-loop s r₀ n i₀ r i = (i ≤ n) × Lowest s i (r .first)
+Inv-loop s claim r₀ n i₀ r i = (i ≤ n) × Lowest s i (r .first)
 
 abbrev μ-loop : tie.MeasureT-loop
-μ-loop s r₀ n i₀ r i = n - i
+μ-loop s claim r₀ n i₀ r i = n - i
 
 new-requires : tie.Need-new-requires Inv-loop μ-loop
 new-requires c κs = search needs
@@ -37,11 +37,8 @@ loop-less c = search needs
 loop-again : tie.Need-loop-again Inv-loop μ-loop
 loop-again c = (search needs, search entry-written)
 
-claim-bytes-requires : tie.Need-claim-bytes-requires Inv-loop μ-loop
-claim-bytes-requires c κs = search needs
-
-hold-requires-2 : tie.Need-hold-requires-2 Inv-loop μ-loop
-hold-requires-2 c κs = search needs
+hold-guess-requires : tie.Need-hold-guess-requires Inv-loop μ-loop
+hold-guess-requires c κs = search needs
 
 add-r : tie.Need-add-r Inv-loop μ-loop
 add-r c = omega arith
@@ -63,7 +60,6 @@ initial-spec =
     add-i
     loop-less
     loop-again
-    claim-bytes-requires
-    hold-requires-2
+    hold-guess-requires
     add-r
     returns)

@@ -1,15 +1,15 @@
 -- The terms of the registers, and when a term number is known before a step.
 use mathlib.Core.Path.{_≡_, refl, sym, ap, _∙_}
 use mathlib.Core.Logic.{_⊎_, inl, inr, ⊎-elim}
-use mathlib.Core.Bool.{Bool, true}
+use mathlib.Core.Bool.{true}
 use mathlib.Core.List.{List}
 use Prim.Native.Nat.{ℕ, _+_, _-_, _<_}
 use native.Mathlib.Omega.{arith}
 use borrow.Author.Tests.{lt-ltb, le-ltb, eq-eqb, ne-eqb}
 use Rattle.base.proofs.Order.{lt-or-ge}
 use Rattle.base.proofs.Says.{Says, says-eqb, says-true, says-and, says-any}
-use Rattle.submission.specs.Record.{entries, entryAt, guess, conclusionAt}
-use Rattle.derivation.specs.{Step.registerTerm, Step.written, Computed.holdsTerm, Computed.knownAmong, Computed.every, Computed.isKnown}
+use Rattle.submission.specs.{Record.entries, Record.entryAt, Record.guess, Record.conclusionAt, Check.claims}
+use Rattle.derivation.specs.{Step.guessCounts, Step.registerTerm, Step.registerCounts, Step.written, Step.holdsTerm, Computed.isKnown}
 
 module _ (s : List ℕ) where
   -- ---- the three sorts of registers
@@ -38,41 +38,35 @@ module _ (s : List ℕ) where
       (λ a. ⊎-elim (λ b. guessed (omega arith)) (λ b. result (r - (entries s + 1)) (omega arith) (omega arith)) (lt-or-ge r (entries s + 1)))
       (lt-or-ge r (entries s))
 
--- t is in the knowledge, is the guess, or was concluded by an earlier step, in a register that counts
-abbrev pub KnownAmong : (ℕ → Bool) → List ℕ → ℕ → ℕ → Type 0
-KnownAmong counts s i t =
-    ((r : ℕ) × (r < entries s) × (counts r ≡ true) × (t ≡ entryAt s r))
-    ⊎ (((counts (entries s) ≡ true) × (t ≡ guess s)) ⊎ ((j : ℕ) × (j < i) × (counts (written s j) ≡ true) × (t ≡ conclusionAt s j)))
+  -- ---- which registers count
+  pub counts-other : (r : ℕ) → (r ≡ entries s → ⊥) → registerCounts s r ≡ true
+  unfolding registerCounts
+  counts-other r d = rw (ne-eqb r (entries s) d)
 
-pub says-known-among : (counts : ℕ → Bool) (s : List ℕ) (i t : ℕ) → Says (knownAmong counts s i t) (KnownAmong counts s i t)
-says-known-among counts s i t =
-    let w = says-any {P = λ r. (counts r ≡ true) × (registerTerm s r ≡ t)} (holdsTerm counts s t) (written s i) (λ r l. says-and _ _ (says-true _) (says-eqb _ _)) in
-    (λ e. let (r, l, q) = w .0 e in from r q (written-cases s i r l), λ k. w .1 (back k))
-  where
-    from : (r : ℕ) → (counts r ≡ true) × (registerTerm s r ≡ t) → Written s i r → KnownAmong counts s i t
-    from r (z, q) (entry l) = inl (r, l, z, sym q ∙ entry-register s r l)
-    from r (z, q) (guessed e) = inr (inl (rw e at z, sym q ∙ ap (registerTerm s) e ∙ guess-register s))
-    from r (z, q) (result j l e) = inr (inr (j, l, rw e at z, sym q ∙ ap (registerTerm s) e ∙ result-register s j))
+  pub counts-guess : registerCounts s (entries s) ≡ guessCounts (claims s)
+  unfolding registerCounts
+  counts-guess = rw (eq-eqb (entries s) (entries s) refl)
 
-    back : KnownAmong counts s i t → (r : ℕ) × (r < written s i) × ((counts r ≡ true) × (registerTerm s r ≡ t))
-    back (inl (r, l, z, e)) = (r, omega arith, (z, entry-register s r l ∙ sym e))
-    back (inr (inl (z, e))) = (entries s, omega arith, (z, guess-register s ∙ sym e))
-    back (inr (inr (j, l, z, e))) = (written s j, omega arith, (z, result-register s j ∙ sym e))
-
--- "A premise is known if it is in the knowledge, is the guess, or was concluded by an earlier step", of term numbers: every register counts
+-- "A premise is known if it is in the knowledge, is the guess, or was concluded by an earlier step", of term numbers
 abbrev pub KnownNumber : List ℕ → ℕ → ℕ → Type 0
 KnownNumber s i t =
-    ((r : ℕ) × (r < entries s) × (t ≡ entryAt s r)) ⊎ ((t ≡ guess s) ⊎ ((j : ℕ) × (j < i) × (t ≡ conclusionAt s j)))
+    ((r : ℕ) × (r < entries s) × (t ≡ entryAt s r))
+    ⊎ (((guessCounts (claims s) ≡ true) × (t ≡ guess s)) ⊎ ((j : ℕ) × (j < i) × (t ≡ conclusionAt s j)))
+
+pub says-holds : (s : List ℕ) (t r : ℕ) → Says (holdsTerm s t r) ((registerCounts s r ≡ true) × (registerTerm s r ≡ t))
+says-holds s t r = says-and _ _ (says-true _) (says-eqb _ _)
 
 pub says-known : (s : List ℕ) (i t : ℕ) → Says (isKnown s i t) (KnownNumber s i t)
-says-known s i t = let w = says-known-among every s i t in (λ e. from (w .0 e), λ k. w .1 (back k))
+says-known s i t =
+    let w = says-any {P = λ r. (registerCounts s r ≡ true) × (registerTerm s r ≡ t)} (holdsTerm s t) (written s i) (λ r l. says-holds s t r) in
+    (λ e. let (r, l, q) = w .0 e in from r q (written-cases s i r l), λ k. w .1 (back k))
   where
-    from : KnownAmong every s i t → KnownNumber s i t
-    from (inl (r, l, z, e)) = inl (r, l, e)
-    from (inr (inl (z, e))) = inr (inl e)
-    from (inr (inr (j, l, z, e))) = inr (inr (j, l, e))
+    from : (r : ℕ) → (registerCounts s r ≡ true) × (registerTerm s r ≡ t) → Written s i r → KnownNumber s i t
+    from r (z, q) (entry l) = inl (r, l, sym q ∙ entry-register s r l)
+    from r (z, q) (guessed e) = inr (inl (sym (ap (registerCounts s) e ∙ counts-guess s) ∙ z, sym q ∙ ap (registerTerm s) e ∙ guess-register s))
+    from r (z, q) (result j l e) = inr (inr (j, l, sym q ∙ ap (registerTerm s) e ∙ result-register s j))
 
-    back : KnownNumber s i t → KnownAmong every s i t
-    back (inl (r, l, e)) = inl (r, l, refl, e)
-    back (inr (inl e)) = inr (inl (refl, e))
-    back (inr (inr (j, l, e))) = inr (inr (j, l, refl, e))
+    back : KnownNumber s i t → (r : ℕ) × (r < written s i) × ((registerCounts s r ≡ true) × (registerTerm s r ≡ t))
+    back (inl (r, l, e)) = (r, omega arith, (counts-other s r (λ f. omega arith), entry-register s r l ∙ sym e))
+    back (inr (inl (z, e))) = (entries s, omega arith, (counts-guess s ∙ z, guess-register s ∙ sym e))
+    back (inr (inr (j, l, e))) = (written s j, omega arith, (counts-other s (written s j) (λ f. omega arith), result-register s j ∙ sym e))

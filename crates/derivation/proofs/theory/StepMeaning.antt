@@ -151,12 +151,12 @@ module _ {s : List ℕ} (c : Claimed s) (i : ℕ) (sound : (j : ℕ) → j < i �
     where
       up : KnownNumber s i n → Known s i (term s n)
       up (inl (r, k, e)) = inl (r, k, ap (term s) e)
-      up (inr (inl e)) = inr (inl (ap (term s) e))
+      up (inr (inl (k, e))) = inr (inl (k, ap (term s) e))
       up (inr (inr (j, k, e))) = inr (inr (j, k, ap (term s) e))
 
       down : Known s i (term s n) → KnownNumber s i n
       down (inl (r, k, e)) = inl (r, k, c .read .same-number n (entryAt s r) b (c .read .entry-below r k) e)
-      down (inr (inl e)) = inr (inl (c .read .same-number n (guess s) b (c .guess-below) e))
+      down (inr (inl (k, e))) = inr (inl (k, c .read .same-number n (guess s) b (c .guess-below) e))
       down (inr (inr (j, k, e))) = inr (inr (j, k, c .read .same-number n (conclusionAt s j) b (sound j k .conclusion-below) e))
 
   pub says-known-term : (n : ℕ) → n < terms s → Says (isKnown s i n) (Known s i (term s n))

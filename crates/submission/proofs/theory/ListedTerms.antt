@@ -1,7 +1,7 @@
 -- What holds of a submission that passes checks 1 to 4, and of its claim after check 5.
 -- Its records are a table: its term numbers stand for its terms, one for one.
 use mathlib.Core.Path.{_≡_, refl, sym, ap, ap₂, _∙_, subst}
-use mathlib.Core.Logic.{_↔_, ⊎-elim}
+use mathlib.Core.Logic.{_↔_, _⊎_, inl, ⊎-elim}
 use mathlib.Core.Bool.{true, false, cond, false≢true, not}
 use mathlib.Core.List.{List}
 use mathlib.Core.Option.{Option, none, some}
@@ -9,7 +9,7 @@ use Prim.Native.Nat.{ℕ, zero, suc, _+_, _*_, _<_, _≤_}
 use native.Mathlib.Omega.{arith}
 use borrow.Author.Tests.{ltb-false}
 use Rattle.base.proofs.Order.{lt-or-ge}
-use Rattle.base.proofs.Says.{Says, says-eqb, says-ltb, says-and, says-or, not-not-false, or-false, none-fails}
+use Rattle.base.proofs.Says.{Says, says-true, says-eqb, says-ltb, says-and, says-or, not-not-false, or-false, none-fails}
 use Rattle.term.specs.Term.{Kind, plain, public, private, otherKind, asymmetric, Form, Second, absent, anything, keyFor, second, unary, make, Term, atom, node, isKey, inverse, Match, Shape, atomic, compound, shape, isKeyFor, Operands, branch, message}
 use Rattle.term.specs.Code.{Message, Below, Table}
 use Rattle.term.specs.{Number.shapeOf, Computed.kindOf, Computed.inverseKinds}
@@ -19,9 +19,9 @@ use Rattle.term.proofs.Table.{decode-inj, decoded-reads}
 use Rattle.term.specs.Computed.{isAtomic}
 use Rattle.base.specs.Computed.{passes, failsIf, failsAt}
 use Rattle.submission.specs.{Record.count, Record.least, Record.most, Record.terms, Record.entries, Record.steps, Record.kindAt, Record.xAt, Record.yAt, Record.nameAt, Record.entryAt, Record.guess, Record.verifying, Record.wayAt, Record.companion, Record.recordOf, Record.recordAt, Record.term, Computed.areInverse}
-use Rattle.submission.specs.Check.{HasSecond, Shaped, ClaimFits, Way, another-step, at-start, inverse-key, wayOf, Range, step-number, term-number, zero-only, row, InRange}
+use Rattle.submission.specs.Check.{HasSecond, Shaped, GuessFits, FitsWay, ClaimFits, Way, another-step, at-start, inverse-key, guess-derived, inverse-derived, wayOf, Target, the-guess, its-inverse, Claims, verifier, derived, claimsIn, claims, Range, step-number, term-number, zero-only, step-or-knowledge, knowledgeStep, row, InRange}
 use Rattle.submission.specs.Code.{TableRead}
-use Rattle.submission.specs.Computed.{badCount, badContents, inRange, claimFits, badTerm, badKnowledge, goodClaim, checks1to4, checks1to5}
+use Rattle.submission.specs.Computed.{badCount, badContents, inRange, guessFits, claimFits, badTerm, badKnowledge, goodClaim, checks1to4, checks1to5}
 use Rattle.base.proofs.AnswerLaws.{if-passes, at-passes, then-passes}
 use Rattle.submission.proofs.theory.GoodRecord.{secondPart, second-below, Good, good, name-bytes, same-record}
 
@@ -224,6 +224,12 @@ says-in-range : (s : List ℕ) (r : Range) (n : ℕ) → Says (inRange s r n) (I
 says-in-range s step-number n = says-ltb n (steps s)
 says-in-range s term-number n = says-ltb n (terms s)
 says-in-range s zero-only n = says-eqb n 0
+says-in-range s step-or-knowledge n = says-or _ _ (says-ltb n (steps s)) (says-eqb n knowledgeStep)
+
+says-guess-fits : (s : List ℕ) (k : Claims) → Says (guessFits s k) (GuessFits s k)
+says-guess-fits s verifier = (λ e. tt, λ e. refl)
+says-guess-fits s (derived the-guess) = (λ e. tt, λ e. refl)
+says-guess-fits s (derived its-inverse) = says-true _
 
 pub record Claimed (s : List ℕ) : Type 0 where
   pub read : Listed s
@@ -231,9 +237,10 @@ pub record Claimed (s : List ℕ) : Type 0 where
   pub guess-kind : Kind
   pub guess-shape : shapeOf (kindAt s (guess s)) ≡ some (atomic guess-kind)
   pub guess-term : term s (guess s) ≡ atom guess-kind (nameAt s (guess s))
-  pub verifying-below : verifying s < steps s
   pub way : Way
   pub has-way : wayOf (wayAt s) ≡ some way
+  pub guess-fits : GuessFits s (row way .claims)
+  pub step-range : InRange s (row way .step) (verifying s)
   pub in-range : InRange s (row way .companion) (companion s)
 
 says-atomic : (o : Option Shape) → Says (isAtomic o) ((κ : Kind) × (o ≡ some (atomic κ)))
@@ -242,11 +249,11 @@ says-atomic (some (atomic κ)) = (λ e. (κ, refl), λ e. refl)
 says-atomic (some (compound h)) = (λ e. absurd (false≢true e), λ (κ, e). absurd (let z : _≡_ {A = ℕ} 0 1 = cc in omega arith))
 
 says-ranges : (s : List ℕ) (o : Option Way) →
-    Says (claimFits s o) ((w : Way) × (o ≡ some w) × (InRange s (row w .step) (verifying s) × InRange s (row w .companion) (companion s)))
+    Says (claimFits s o) ((w : Way) × (o ≡ some w) × FitsWay s w)
 says-ranges s none = (λ e. absurd (false≢true e), λ (w, e, r). absurd (let z : _≡_ {A = ℕ} 0 1 = cc in omega arith))
 says-ranges s (some w) =
-    let u = says-and _ _ (says-in-range s (row w .step) _) (says-in-range s (row w .companion) _) in
-    (λ e. (w, refl, u .0 e), λ (x, e, r). u .1 (let p : x ≡ w = cc in subst (λ y. InRange s (row y .step) (verifying s) × InRange s (row y .companion) (companion s)) p r))
+    let u = says-and _ _ (says-guess-fits s (row w .claims)) (says-and _ _ (says-in-range s (row w .step) _) (says-in-range s (row w .companion) _)) in
+    (λ e. (w, refl, u .0 e), λ (x, e, r). u .1 (let p : x ≡ w = cc in subst (FitsWay s) p r))
 
 -- row 5
 pub says-claim : (s : List ℕ) → Says (goodClaim s) (ClaimFits s)
@@ -254,26 +261,60 @@ unfolding goodClaim
 says-claim s =
     says-and _ _ (says-ltb (guess s) (terms s)) (says-and _ _ (says-atomic (shapeOf (kindAt s (guess s)))) (says-ranges s (wayOf (wayAt s))))
 
--- in every way the step is one of the derivation
-step-below : (s : List ℕ) (w : Way) (n : ℕ) → InRange s (row w .step) n → n < steps s
-step-below s another-step n l = l
-step-below s at-start n l = l
-step-below s inverse-key n l = l
-
 pub claimed : (s : List ℕ) → Bytes s → checks1to5 s ≡ passes → Claimed s
 unfolding checks1to5
 claimed s b e =
     let (r, e5) = then-passes (checks1to4 s) (failsIf (not (goodClaim s)) 5 0) .0 e in
     let z = listed s b r in
-    let (g, ((κ, k), (w, f, (v, i)))) = says-claim s .0 (not-not-false _ .0 (if-passes _ 5 0 .0 e5)) in
+    let (g, ((κ, k), (w, f, (h, (v, i))))) = says-claim s .0 (not-not-false _ .0 (if-passes _ 5 0 .0 e5)) in
     record {
       read = z;
       guess-below = g;
       guess-kind = κ;
       guess-shape = k;
       guess-term = term-at s (z .bytes) (z .good) (z .table) (guess s) (atomic κ) g k;
-      verifying-below = step-below s w _ v;
       way = w;
       has-way = f;
+      guess-fits = h;
+      step-range = v;
       in-range = i;
     }
+
+-- ---- what is claimed
+-- a verifying step is one of the derivation
+step-below : (s : List ℕ) (w : Way) (n : ℕ) → row w .claims ≡ verifier → InRange s (row w .step) n → n < steps s
+step-below s another-step n e l = l
+step-below s at-start n e l = l
+step-below s inverse-key n e l = l
+step-below s guess-derived n e l = absurd (let z : _≡_ {A = ℕ} 0 1 = cc in omega arith)
+step-below s inverse-derived n e l = absurd (let z : _≡_ {A = ℕ} 0 1 = cc in omega arith)
+
+-- a step that gives the term claimed is one of the derivation, or 255
+step-or-entry : (s : List ℕ) (w : Way) (n : ℕ) (t : Target) → row w .claims ≡ derived t → InRange s (row w .step) n → (n < steps s) ⊎ (n ≡ knowledgeStep)
+step-or-entry s another-step n t e l = inl l
+step-or-entry s at-start n t e l = inl l
+step-or-entry s inverse-key n t e l = inl l
+step-or-entry s guess-derived n t e l = l
+step-or-entry s inverse-derived n t e l = l
+
+module _ {s : List ℕ} (c : Claimed s) where
+  pub claims-way : claims s ≡ row (c .way) .claims
+  claims-way = ap claimsIn (c .has-way)
+
+  pub verifying-below : claims s ≡ verifier → verifying s < steps s
+  verifying-below e = step-below s (c .way) _ (sym claims-way ∙ e) (c .step-range)
+
+  pub given-range : (t : Target) → claims s ≡ derived t → (verifying s < steps s) ⊎ (verifying s ≡ knowledgeStep)
+  given-range t e = step-or-entry s (c .way) _ t (sym claims-way ∙ e) (c .step-range)
+
+  pub claimed-fits : (k : Claims) → claims s ≡ k → GuessFits s k
+  claimed-fits k e = subst (GuessFits s) (sym claims-way ∙ e) (c .guess-fits)
+
+  -- way j: the guess is a key
+  pub guess-key : GuessFits s (derived its-inverse) → isKey (term s (guess s))
+  guess-key g = subst isKey (sym (c .guess-term)) (key-of (c .guess-kind) (sym (ap (isKeyFor asymmetric) (c .guess-shape)) ∙ g))
+    where
+      key-of : (κ : Kind) → isKeyFor asymmetric (some (atomic κ)) ≡ true → isKey (atom κ (nameAt s (guess s)))
+      key-of plain e = absurd (false≢true e)
+      key-of public e = tt
+      key-of private e = tt

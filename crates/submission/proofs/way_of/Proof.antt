@@ -17,7 +17,15 @@ unfolding wayOf
 returns-3 c = rw (c .match .keys3)
 
 returns-4 : tie.Need-returns-4
-returns-4 c = search no-way
+unfolding wayOf
+returns-4 c = rw (c .match .keys4)
+
+returns-5 : tie.Need-returns-5
+unfolding wayOf
+returns-5 c = rw (c .match .keys5)
+
+returns-6 : tie.Need-returns-6
+returns-6 c = search no-way
 
 pub way-of-spec : {M : Type 1} → statement M
-way-of-spec = tie.close (tie.spec returns returns-2 returns-3 returns-4)
+way-of-spec = tie.close (tie.spec returns returns-2 returns-3 returns-4 returns-5 returns-6)

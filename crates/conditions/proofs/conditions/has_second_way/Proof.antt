@@ -26,6 +26,12 @@ enum-told-3 c = search needs
 is-inverse-known-requires : tie.Need-is-inverse-known-requires
 is-inverse-known-requires c κs = search needs
 
+enum-told-4 : tie.Need-enum-told-4
+enum-told-4 c = search needs
+
+enum-told-5 : tie.Need-enum-told-5
+enum-told-5 c = search needs
+
 returns : tie.Need-returns
 returns c = search (ways, scan)
 
@@ -34,6 +40,12 @@ returns-2 c = search (ways, scan)
 
 returns-3 : tie.Need-returns-3
 returns-3 c = search (ways, scan)
+
+returns-4 : tie.Need-returns-4
+returns-4 c = search (ways, scan)
+
+returns-5 : tie.Need-returns-5
+returns-5 c = search (ways, scan)
 
 pub has-second-way-spec : {M : Type 1} → statement M
 has-second-way-spec =
@@ -46,6 +58,10 @@ has-second-way-spec =
     is-known-at-start-requires
     enum-told-3
     is-inverse-known-requires
+    enum-told-4
+    enum-told-5
     returns
     returns-2
-    returns-3)
+    returns-3
+    returns-4
+    returns-5)

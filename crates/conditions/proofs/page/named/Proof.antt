@@ -31,6 +31,18 @@ enum-told-4 c = search needs
 lowest-requires-2 : tie.Need-lowest-requires-2
 lowest-requires-2 c κs = search needs
 
+enum-told-5 : tie.Need-enum-told-5
+enum-told-5 c = search needs
+
+entries-requires : tie.Need-entries-requires
+entries-requires c κs = search needs
+
+enum-known-operand : tie.Need-enum-known-operand
+enum-known-operand c = search needs
+
+given-register-requires : tie.Need-given-register-requires
+given-register-requires c κs = (search needs, (search needs, search operands))
+
 returns : tie.Need-returns
 returns c = search operands
 
@@ -42,6 +54,12 @@ returns-3 c = search operands
 
 returns-4 : tie.Need-returns-4
 returns-4 c = search operands
+
+returns-5 : tie.Need-returns-5
+returns-5 c = search operands
+
+returns-6 : tie.Need-returns-6
+returns-6 c = search operands
 
 pub named-spec : {M : Type 1} → statement M
 named-spec =
@@ -56,7 +74,13 @@ named-spec =
     lowest-requires
     enum-told-4
     lowest-requires-2
+    enum-told-5
+    entries-requires
+    enum-known-operand
+    given-register-requires
     returns
     returns-2
     returns-3
-    returns-4)
+    returns-4
+    returns-5
+    returns-6)

@@ -1,15 +1,14 @@
--- `check_steps` is checks 6 and 7. The loop's invariant: the steps before i pass, and their results are in the registers.
-use native.Mathlib.Nat.{add-zero}
+-- `check_from` is checks 6 and 7. The loop's invariant: the steps before i pass, and their results are in the registers.
 use Prim.Native.Nat.{_-_}
-use borrow.Author.Needs.{needs}
 use Rattle.base.proofs.First.{Passed, passed-none}
 use Rattle.submission.specs.Record.{steps}
 use Rattle.derivation.specs.Step.{written}
 use Rattle.derivation.specs.Code.{Registered}
 use Rattle.derivation.proofs.RegistersHeld.{result-written}
 use Rattle.derivation.proofs.StepReturns.{faulty, steps-go-on, steps-stop, steps-end}
-use Rattle.derivation.proofs.check_steps.Statement.{statement}
-use Rattle.derivation.proofs.check_steps.Tie as tie
+use borrow.Author.Needs.{needs}
+use Rattle.derivation.proofs.check_from.Statement.{statement}
+use Rattle.derivation.proofs.check_from.Tie as tie
 
 abbrev Inv-loop : tie.InvT-loop
 Inv-loop s r₀ n i₀ r i = Passed (faulty s) (steps s) i × Registered s (written s i) r
@@ -17,14 +16,11 @@ Inv-loop s r₀ n i₀ r i = Passed (faulty s) (steps s) i × Registered s (writ
 abbrev μ-loop : tie.MeasureT-loop
 μ-loop s r₀ n i₀ r i = n - i
 
-initial-requires : tie.Need-initial-requires Inv-loop μ-loop
-initial-requires c κs = search needs
-
 steps-requires : tie.Need-steps-requires Inv-loop μ-loop
 steps-requires c κs = search needs
 
 loop-holds : tie.Need-loop-holds Inv-loop μ-loop
-loop-holds c = (passed-none, rw add-zero (c .before .initial .ensures))
+loop-holds c = (passed-none, search needs)
 
 check-step-requires : tie.Need-check-step-requires Inv-loop μ-loop
 check-step-requires c κs = search needs
@@ -59,13 +55,12 @@ loop-again c = (search steps-go-on, search result-written)
 returns-2 : tie.Need-returns-2 Inv-loop μ-loop
 returns-2 c = search steps-end
 
-pub check-steps-spec : {M : Type 1} → statement M
-check-steps-spec =
+pub check-from-spec : {M : Type 1} → statement M
+check-from-spec =
     tie.close
     (tie.spec
     Inv-loop
     μ-loop
-    initial-requires
     steps-requires
     loop-holds
     check-step-requires
