@@ -46,6 +46,20 @@ refuses-some [] n p a = a
 refuses-some (r ∷ rows) n p (inl a) = inl (a .holds)
 refuses-some (r ∷ rows) n p (inr (c, a)) = inr (refuses-some rows n p a)
 
+-- each row's number is such a one
+abbrev pub Numbers : (ℕ → Type 0) → List (ℕ → ℕ → Type 0) → Type 0
+Numbers Such [] = Unit {0}
+Numbers Such (Row ∷ later) = ((n p : ℕ) → Row n p → Such n) × Numbers Such later
+
+pub some-number : (Such : ℕ → Type 0) (rows : List (ℕ → ℕ → Type 0)) (n p : ℕ) → Numbers Such rows → SomeHolds rows n p → Such n
+some-number Such [] n p l h = absurd h
+some-number Such (r ∷ rows) n p l (inl h) = l .0 n p h
+some-number Such (r ∷ rows) n p l (inr h) = some-number Such rows n p (l .1) h
+
+pub both-numbers : (Such : ℕ → Type 0) (rows later : List (ℕ → ℕ → Type 0)) → Numbers Such rows → Numbers Such later → Numbers Such (rows ++ later)
+both-numbers Such [] later l m = m
+both-numbers Such (r ∷ rows) later l m = (l .0, both-numbers Such rows later (l .1) m)
+
 -- ---- checks that answer as the rows say
 pub record Tells (c : Check) (rows : List (ℕ → ℕ → Type 0)) : Type 0 where
   pub refuses : (n p : ℕ) → c ≡ fails n p → Refuses rows n p

@@ -2,6 +2,7 @@
 pub mod Examples
 pub mod FromCalls
 pub mod HashLaws
+pub mod KnownGuessLaws
 pub mod LongInput
 pub mod PromiseExamples
 pub mod StaleLaws

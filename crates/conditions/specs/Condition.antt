@@ -55,9 +55,12 @@ abbrev pub ClaimMet : List ℕ → Claims → Type 0
 ClaimMet s verifier = Verified s
 ClaimMet s (derived t) = Given s (target s t)
 
+-- 1. "Every step is founded."
+abbrev pub EachFounded : List ℕ → Type 0
+EachFounded s = (i : ℕ) → i < steps s → Known s i (firstPremise s i) × Known s i (secondPremise s i)
+
 pub record FiveConditions (s : List ℕ) : Type 0 where
-  -- 1. "Every step is founded."
-  pub founded : (i : ℕ) → i < steps s → Known s i (firstPremise s i) × Known s i (secondPremise s i)
+  pub founded : EachFounded s
   -- 2 to 5, or what takes their place
   pub met : ClaimMet s (claims s)
 
@@ -70,6 +73,10 @@ claimRows s verifier =
     ∷ []
 claimRows s (derived t) = numbered 16 (λ p. (p ≡ 0) × (Given s (target s t) → ⊥)) ∷ []
 
+-- "6 and 7 are tried together"
+abbrev pub rows1to7 : List ℕ → List (ℕ → ℕ → Type 0)
+rows1to7 s = rows1to5 s ++ rows6and7 s ∷ []
+
 -- "Order: as numbered"; A5: 16 comes "after 7 and before 11"; 11 page, "page under 3N+4 bytes", is of a page of room bytes
 abbrev pub checkRows : List ℕ → ℕ → List (ℕ → ℕ → Type 0)
-checkRows s room = rows1to5 s ++ rows6and7 s ∷ (claimRows s (claims s) ++ row11 (programLength (steps s)) room ∷ [])
+checkRows s room = rows1to7 s ++ claimRows s (claims s) ++ row11 (programLength (steps s)) room ∷ []

@@ -1,6 +1,6 @@
 // What a claim asks for: conditions 3 to 5, checks 8 to 10 in this order; or check 16.
-use base::Stage;
 use crate::given;
+use base::Stage;
 use derivation::Step;
 use submission::Claim;
 use submission::Claims;

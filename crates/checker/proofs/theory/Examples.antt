@@ -20,14 +20,14 @@ use Rattle.submission.specs.Check.{wayOf}
 use Rattle.base.specs.Computed.{any}
 use Rattle.form.proofs.theory.Examples.{m1-bytes}
 use Rattle.inverse.specs.Computed.{inversesOf, inversesAnswer}
-use Rattle.derivation.specs.Step.{registerTerm}
+use Rattle.derivation.specs.Step.{registerTerm, registerCounts}
 use Rattle.derivation.specs.{Computed.badStep, Computed.unfounded, Computed.checkSteps}
 use Rattle.deduction.specs.Computed.{builtWithin, round, rounds, entryMarks, isDeducible, deducibleAnswer}
 use Rattle.program.specs.Program.{relationOf, programLength, instructionBytes, bytesOf, instructionAt}
 use Rattle.submission.specs.Computed.{isKnownPart, isStale}
 use Rattle.machine.specs.Run.{initial, executed, registers, signals, signal}
 use Rattle.text.specs.Text.{digits, stepLine, testLine, stepLines, answerText}
-use Rattle.conditions.specs.Computed.{reachable, samePremises, undoesStep, undone, checks1to10, checkAnswer}
+use Rattle.conditions.specs.Computed.{reachable, samePremises, undoesStep, undone, entryGiven, isGiven, checksBeforePage, checkAnswer}
 use Rattle.conditions.specs.Calls.{lowest, instruction, program}
 use Rattle.checker.specs.Calls.{verdictText}
 use Rattle.submission.specs.Computed.{badContents, badTerm, badKnowledge, goodClaim, checks1to4, checks1to5}
@@ -241,10 +241,65 @@ hash-key =
     (0x54 ∷ 0x06 ∷ 0x00 ∷ 0x10 ∷ 0x4B ∷ 0x04 ∷ 0x00 ∷ 0x22 ∷ 0x44 ∷ 0x01 ∷ 0x00 ∷ 0x26 ∷ 0x56 ∷ 0x01 ∷ 0x00 ∷ 0x2A ∷ 0x01 ∷ 0x00 ∷ 0x02 ∷ 0x01 ∷ 0x00 ∷ 0x01 ∷ 0x01 ∷ 0x00 ∷ 0x03 ∷ 0x07 ∷ 0x02 ∷ 0x00 ∷ 0x05 ∷ 0x00 ∷ 0x03 ∷ 0x05 ∷ 0x01 ∷ 0x00 ∷ 0x01 ∷ 0x02 ∷ 0x04 ∷ 0x05 ∷ 0x04 ∷ 0x05 ∷ 0x00 ∷ 0x01 ∷ 0x00 ∷ 0x00 ∷ 0x62 ∷ 0x00 ∷ [])
     8 0 (0x38 ∷ 0x20 ∷ 0x30 ∷ [])
 
+-- our own, of A5: knowledge k, enc(g, k), enc(n, g); dec of the second, which gives g, then dec of the third with it; step 0, way k: accepted. The
+-- second step reads the first one's register, not the guess's. The name of k, 3, is stale.
+abbrev pub guess-shown : Example
+guess-shown =
+    record {
+      bytes =
+          0x54 ∷ 0x05 ∷ 0x00 ∷ 0x10 ∷ 0x4B ∷ 0x03 ∷ 0x00 ∷ 0x1F ∷ 0x44 ∷ 0x02 ∷ 0x00 ∷ 0x22 ∷ 0x56 ∷ 0x01 ∷ 0x00 ∷ 0x2A ∷ 0x01 ∷ 0x00 ∷ 0x01 ∷ 0x01 ∷ 0x00 ∷ 0x02 ∷ 0x01 ∷ 0x00 ∷ 0x03 ∷ 0x05 ∷ 0x01 ∷ 0x02 ∷ 0x05 ∷ 0x00 ∷ 0x01 ∷ 0x02 ∷ 0x03 ∷ 0x04 ∷ 0x04 ∷ 0x03 ∷ 0x02 ∷ 0x01 ∷ 0x04 ∷ 0x04 ∷ 0x01 ∷ 0x00 ∷ 0x01 ∷ 0x00 ∷ 0x6B ∷ 0x00 ∷ [];
+      page = replicate 12 0xA5;
+      names = 2 ∷ 9 ∷ 3 ∷ [];
+      wanted =
+          record {
+            answer = done 2;
+            page = 0x02 ∷ 0x04 ∷ 0x01 ∷ 0x00 ∷ 0x04 ∷ 0x02 ∷ 0x04 ∷ 0x3D ∷ 0x03 ∷ 0x04 ∷ 0xA5 ∷ 0xA5 ∷ [];
+            text =
+                0x61 ∷ 0x63 ∷ 0x63 ∷ 0x65 ∷ 0x70 ∷ 0x74 ∷ 0x65 ∷ 0x64 ∷ 0x20 ∷ 0x32 ∷ 0x0A ∷ 0x72 ∷ 0x34 ∷ 0x20 ∷ 0x3D ∷ 0x20 ∷ 0x64 ∷ 0x65 ∷ 0x63 ∷ 0x20 ∷ 0x72 ∷ 0x31 ∷ 0x20 ∷ 0x72 ∷ 0x30 ∷ 0x0A ∷ 0x72 ∷ 0x35 ∷ 0x20 ∷ 0x3D ∷ 0x20 ∷ 0x64 ∷ 0x65 ∷ 0x63 ∷ 0x20 ∷ 0x72 ∷ 0x32 ∷ 0x20 ∷ 0x72 ∷ 0x34 ∷ 0x0A ∷ 0x73 ∷ 0x69 ∷ 0x67 ∷ 0x6E ∷ 0x61 ∷ 0x6C ∷ 0x20 ∷ 0x72 ∷ 0x33 ∷ 0x20 ∷ 0x3D ∷ 0x20 ∷ 0x72 ∷ 0x34 ∷ 0x0A ∷ [];
+            signals = done 1 ∷ done 0 ∷ refused 15 0 ∷ [];
+          };
+    }
+
+-- our own, of A5, examples/004-5.8-condition-6-shown: knowledge enc(j, k), k, with j the inverse of the guess; dec; way j: accepted
+abbrev pub inverse-shown : Example
+inverse-shown =
+    record {
+      bytes =
+          0x54 ∷ 0x04 ∷ 0x00 ∷ 0x10 ∷ 0x4B ∷ 0x02 ∷ 0x00 ∷ 0x1C ∷ 0x44 ∷ 0x01 ∷ 0x00 ∷ 0x1E ∷ 0x56 ∷ 0x01 ∷ 0x00 ∷ 0x22 ∷ 0x01 ∷ 0x00 ∷ 0x01 ∷ 0x02 ∷ 0x00 ∷ 0x05 ∷ 0x03 ∷ 0x00 ∷ 0x05 ∷ 0x05 ∷ 0x02 ∷ 0x00 ∷ 0x03 ∷ 0x00 ∷ 0x04 ∷ 0x03 ∷ 0x00 ∷ 0x02 ∷ 0x01 ∷ 0x00 ∷ 0x6A ∷ 0x00 ∷ [];
+      page = replicate 9 0xA5;
+      names = 5 ∷ 6 ∷ [];
+      wanted =
+          record {
+            answer = done 1;
+            page = 0x01 ∷ 0x04 ∷ 0x00 ∷ 0x01 ∷ 0x69 ∷ 0x02 ∷ 0x03 ∷ 0xA5 ∷ 0xA5 ∷ [];
+            text =
+                0x61 ∷ 0x63 ∷ 0x63 ∷ 0x65 ∷ 0x70 ∷ 0x74 ∷ 0x65 ∷ 0x64 ∷ 0x20 ∷ 0x31 ∷ 0x0A ∷ 0x72 ∷ 0x33 ∷ 0x20 ∷ 0x3D ∷ 0x20 ∷ 0x64 ∷ 0x65 ∷ 0x63 ∷ 0x20 ∷ 0x72 ∷ 0x30 ∷ 0x20 ∷ 0x72 ∷ 0x31 ∷ 0x0A ∷ 0x73 ∷ 0x69 ∷ 0x67 ∷ 0x6E ∷ 0x61 ∷ 0x6C ∷ 0x20 ∷ 0x72 ∷ 0x32 ∷ 0x20 ∷ 0x68 ∷ 0x61 ∷ 0x73 ∷ 0x69 ∷ 0x6E ∷ 0x76 ∷ 0x20 ∷ 0x72 ∷ 0x33 ∷ 0x0A ∷ [];
+            signals = done 1 ∷ done 0 ∷ [];
+          };
+    }
+
+-- our own, of A5, examples/004-2-condition-6-shown: knowledge j, the inverse of the guess; no step; 255, way j: accepted
+abbrev pub inverse-known : Example
+inverse-known =
+    record {
+      bytes =
+          0x54 ∷ 0x02 ∷ 0x00 ∷ 0x10 ∷ 0x4B ∷ 0x01 ∷ 0x00 ∷ 0x16 ∷ 0x44 ∷ 0x00 ∷ 0x00 ∷ 0x17 ∷ 0x56 ∷ 0x01 ∷ 0x00 ∷ 0x17 ∷ 0x02 ∷ 0x00 ∷ 0x05 ∷ 0x03 ∷ 0x00 ∷ 0x05 ∷ 0x01 ∷ 0x00 ∷ 0xFF ∷ 0x6A ∷ 0x00 ∷ [];
+      page = replicate 5 0xA5;
+      names = 5 ∷ 6 ∷ [];
+      wanted =
+          record {
+            answer = done 0;
+            page = 0x00 ∷ 0x69 ∷ 0x01 ∷ 0x00 ∷ 0xA5 ∷ [];
+            text = 0x61 ∷ 0x63 ∷ 0x63 ∷ 0x65 ∷ 0x70 ∷ 0x74 ∷ 0x65 ∷ 0x64 ∷ 0x20 ∷ 0x30 ∷ 0x0A ∷ 0x73 ∷ 0x69 ∷ 0x67 ∷ 0x6E ∷ 0x61 ∷ 0x6C ∷ 0x20 ∷ 0x72 ∷ 0x31 ∷ 0x20 ∷ 0x68 ∷ 0x61 ∷ 0x73 ∷ 0x69 ∷ 0x6E ∷ 0x76 ∷ 0x20 ∷ 0x72 ∷ 0x30 ∷ 0x0A ∷ [];
+            signals = done 1 ∷ done 0 ∷ [];
+          };
+    }
+
 -- our own, by number: M1 with bytes changed, or another example, which is named. M1 has its terms from byte 16, its knowledge from 25, its
 -- step from 27 and its claim from 31; M3 its steps from 29, 33 and 37 and its claim from 41; M5, M7, M8 and undone-by-terms their claims from
 -- 54, 34, 34 and 49; hashed its hash from 22, its knowledge from 25 and its step from 26; hash-key its hash from 25 and the encryption under
--- it from 28.
+-- it from 28; M9 its claim from 32, M10 its knowledge from 25 and its claim from 27; guess-shown its knowledge from 31, its steps from 34 and 38
+-- and its claim from 42; inverse-known its knowledge from 22 and its claim from 23.
 abbrev pub own : List Example
 own =
     -- 1, place 0: under 16 bytes (M1's first 15)
@@ -290,6 +345,17 @@ own =
     ∷ refusal (sets (m3 .bytes) 44 (0x03 ∷ [])) 5 0 (0x35 ∷ 0x20 ∷ 0x30 ∷ [])
     ∷ refusal (sets (m1 .bytes) 34 (0x01 ∷ [])) 5 0 (0x35 ∷ 0x20 ∷ 0x30 ∷ [])
     ∷ refusal (sets (m8 .bytes) 37 (0x04 ∷ [])) 5 0 (0x35 ∷ 0x20 ∷ 0x30 ∷ [])
+    -- 5, place 0: 255 in ways a, b and c (M3, M10, M8)
+    ∷ refusal (sets (m3 .bytes) 42 (0xFF ∷ [])) 5 0 (0x35 ∷ 0x20 ∷ 0x30 ∷ [])
+    ∷ refusal (sets (m10 .bytes) 28 (0xFF ∷ [])) 5 0 (0x35 ∷ 0x20 ∷ 0x30 ∷ [])
+    ∷ refusal (sets (m8 .bytes) 35 (0xFF ∷ [])) 5 0 (0x35 ∷ 0x20 ∷ 0x30 ∷ [])
+    -- 5, place 0: in ways k and j a step that is neither below N nor 255 (2, which is N; 254), the companion not 0
+    ∷ refusal (sets (guess-shown .bytes) 43 (0x02 ∷ [])) 5 0 (0x35 ∷ 0x20 ∷ 0x30 ∷ [])
+    ∷ refusal (sets (inverse-known .bytes) 24 (0xFE ∷ [])) 5 0 (0x35 ∷ 0x20 ∷ 0x30 ∷ [])
+    ∷ refusal (sets (guess-shown .bytes) 45 (0x01 ∷ [])) 5 0 (0x35 ∷ 0x20 ∷ 0x30 ∷ [])
+    -- 5, place 0: way j on a guess that is no key (M10 with 255; guess-shown)
+    ∷ refusal (sets (m10 .bytes) 28 (0xFF ∷ 0x6A ∷ [])) 5 0 (0x35 ∷ 0x20 ∷ 0x30 ∷ [])
+    ∷ refusal (sets (guess-shown .bytes) 44 (0x6A ∷ [])) 5 0 (0x35 ∷ 0x20 ∷ 0x30 ∷ [])
     -- 6, place 2: the rule wrong (M3, 8 for snd)
     ∷ refusal (sets (m3 .bytes) 37 (0x08 ∷ [])) 6 2 (0x36 ∷ 0x20 ∷ 0x32 ∷ [])
     -- 6, place 1: a number wrong (M3, the conclusion of fst is 4, which is T)
@@ -319,6 +385,34 @@ own =
     ∷ refusal (sets (m7 .bytes) 36 (0x63 ∷ [])) 9 1 (0x39 ∷ 0x20 ∷ 0x31 ∷ [])
     -- 10, place 1: the companion undoes (undone-by-terms with step 0, way a, companion 2, the pair, which undoes snd and fst, steps 1 and 3)
     ∷ refusal (sets (undone-by-terms .bytes) 49 (0x02 ∷ 0x00 ∷ 0x61 ∷ 0x02 ∷ [])) 10 1 (0x31 ∷ 0x30 ∷ 0x20 ∷ 0x31 ∷ [])
+    -- 7, place 0: in way k the guess doesn't count as known (M1)
+    ∷ refusal (sets (m1 .bytes) 33 (0x6B ∷ [])) 7 0 (0x37 ∷ 0x20 ∷ 0x30 ∷ [])
+    -- 7, place 0: 7 before 16 (guess-shown with its steps exchanged); 6, place 1: 6 before 16 (its second step concludes k, and is claimed)
+    ∷ refusal (sets (guess-shown .bytes) 34 (0x04 ∷ 0x04 ∷ 0x01 ∷ 0x00 ∷ 0x04 ∷ 0x03 ∷ 0x02 ∷ 0x01 ∷ [])) 7 0 (0x37 ∷ 0x20 ∷ 0x30 ∷ [])
+    ∷ refusal (sets (guess-shown .bytes) 41 (0x02 ∷ 0x01 ∷ 0x01 ∷ [])) 6 1 (0x36 ∷ 0x20 ∷ 0x31 ∷ [])
+    -- 16, place 0: the step gives another term (n in guess-shown; in way j the guess itself, inverse-shown with j for the guess)
+    ∷ refusal (sets (guess-shown .bytes) 43 (0x01 ∷ [])) 16 0 (0x31 ∷ 0x36 ∷ 0x20 ∷ 0x30 ∷ [])
+    ∷ refusal (sets (inverse-shown .bytes) 34 (0x02 ∷ [])) 16 0 (0x31 ∷ 0x36 ∷ 0x20 ∷ 0x30 ∷ [])
+    -- 16, place 0: with 255, no entry is the guess (M10; inverse-known in way k, with the inverse only; guess-shown, where a step is), or none
+    -- is its inverse (inverse-known with the guess itself)
+    ∷ refusal (sets (m10 .bytes) 28 (0xFF ∷ 0x6B ∷ [])) 16 0 (0x31 ∷ 0x36 ∷ 0x20 ∷ 0x30 ∷ [])
+    ∷ refusal (sets (inverse-known .bytes) 25 (0x6B ∷ [])) 16 0 (0x31 ∷ 0x36 ∷ 0x20 ∷ 0x30 ∷ [])
+    ∷ refusal (sets (guess-shown .bytes) 43 (0xFF ∷ [])) 16 0 (0x31 ∷ 0x36 ∷ 0x20 ∷ 0x30 ∷ [])
+    ∷ refusal (sets (inverse-known .bytes) 22 (0x00 ∷ [])) 16 0 (0x31 ∷ 0x36 ∷ 0x20 ∷ 0x30 ∷ [])
+    -- accepted: M9 in way k with 255, where the premise g is the entry's; M10 with g as second entry, in the same way
+    ∷ unrun (sets (m9 .bytes) 33 (0xFF ∷ 0x6B ∷ [])) (replicate 7 0xA5) (done 1) (0x01 ∷ 0x04 ∷ 0x01 ∷ 0x02 ∷ 0x3D ∷ 0x03 ∷ 0x02 ∷ [])
+    (0x61 ∷ 0x63 ∷ 0x63 ∷ 0x65 ∷ 0x70 ∷ 0x74 ∷ 0x65 ∷ 0x64 ∷ 0x20 ∷ 0x31 ∷ 0x0A ∷ 0x72 ∷ 0x34 ∷ 0x20 ∷ 0x3D ∷ 0x20 ∷ 0x64 ∷ 0x65 ∷ 0x63 ∷ 0x20 ∷ 0x72 ∷ 0x31 ∷ 0x20 ∷ 0x72 ∷ 0x32 ∷ 0x0A ∷ 0x73 ∷ 0x69 ∷ 0x67 ∷ 0x6E ∷ 0x61 ∷ 0x6C ∷ 0x20 ∷ 0x72 ∷ 0x33 ∷ 0x20 ∷ 0x3D ∷ 0x20 ∷ 0x72 ∷ 0x32 ∷ 0x0A ∷ [])
+    ∷ unrun (sets (sets (m10 .bytes) 26 (0x01 ∷ [])) 28 (0xFF ∷ 0x6B ∷ [])) (replicate 4 0xA5) (done 0) (0x00 ∷ 0x3D ∷ 0x02 ∷ 0x01 ∷ [])
+    (0x61 ∷ 0x63 ∷ 0x63 ∷ 0x65 ∷ 0x70 ∷ 0x74 ∷ 0x65 ∷ 0x64 ∷ 0x20 ∷ 0x30 ∷ 0x0A ∷ 0x73 ∷ 0x69 ∷ 0x67 ∷ 0x6E ∷ 0x61 ∷ 0x6C ∷ 0x20 ∷ 0x72 ∷ 0x32 ∷ 0x20 ∷ 0x3D ∷ 0x20 ∷ 0x72 ∷ 0x31 ∷ 0x0A ∷ [])
+    -- accepted: guess-shown with g as third entry, and its first step twice; the test names the second step's register, not the lowest that holds g
+    ∷ unrun (sets (sets (sets (guess-shown .bytes) 33 (0x01 ∷ [])) 38 (0x04 ∷ 0x03 ∷ 0x02 ∷ 0x01 ∷ [])) 43 (0x01 ∷ [])) (replicate 10 0xA5) (done 2) (0x02 ∷ 0x04 ∷ 0x01 ∷ 0x00 ∷ 0x04 ∷ 0x01 ∷ 0x00 ∷ 0x3D ∷ 0x03 ∷ 0x05 ∷ [])
+    (0x61 ∷ 0x63 ∷ 0x63 ∷ 0x65 ∷ 0x70 ∷ 0x74 ∷ 0x65 ∷ 0x64 ∷ 0x20 ∷ 0x32 ∷ 0x0A ∷ 0x72 ∷ 0x34 ∷ 0x20 ∷ 0x3D ∷ 0x20 ∷ 0x64 ∷ 0x65 ∷ 0x63 ∷ 0x20 ∷ 0x72 ∷ 0x31 ∷ 0x20 ∷ 0x72 ∷ 0x30 ∷ 0x0A ∷ 0x72 ∷ 0x35 ∷ 0x20 ∷ 0x3D ∷ 0x20 ∷ 0x64 ∷ 0x65 ∷ 0x63 ∷ 0x20 ∷ 0x72 ∷ 0x31 ∷ 0x20 ∷ 0x72 ∷ 0x30 ∷ 0x0A ∷ 0x73 ∷ 0x69 ∷ 0x67 ∷ 0x6E ∷ 0x61 ∷ 0x6C ∷ 0x20 ∷ 0x72 ∷ 0x33 ∷ 0x20 ∷ 0x3D ∷ 0x20 ∷ 0x72 ∷ 0x35 ∷ 0x0A ∷ [])
+    -- accepted: inverse-known with j, a private key, for the guess, and k in the knowledge
+    ∷ unrun (sets (inverse-known .bytes) 22 (0x00 ∷ 0x01 ∷ [])) (replicate 4 0xA5) (done 0) (0x00 ∷ 0x69 ∷ 0x01 ∷ 0x00 ∷ [])
+    (0x61 ∷ 0x63 ∷ 0x63 ∷ 0x65 ∷ 0x70 ∷ 0x74 ∷ 0x65 ∷ 0x64 ∷ 0x20 ∷ 0x30 ∷ 0x0A ∷ 0x73 ∷ 0x69 ∷ 0x67 ∷ 0x6E ∷ 0x61 ∷ 0x6C ∷ 0x20 ∷ 0x72 ∷ 0x31 ∷ 0x20 ∷ 0x68 ∷ 0x61 ∷ 0x73 ∷ 0x69 ∷ 0x6E ∷ 0x76 ∷ 0x20 ∷ 0x72 ∷ 0x30 ∷ 0x0A ∷ [])
+    -- 16, place 0: 16 before 11 (a page of 3); 11, place 4: after it
+    ∷ unrun (sets (inverse-known .bytes) 22 (0x00 ∷ [])) (replicate 3 0xA5) (refused 16 0) (replicate 3 0xA5) (0x72 ∷ 0x65 ∷ 0x66 ∷ 0x75 ∷ 0x73 ∷ 0x65 ∷ 0x64 ∷ 0x20 ∷ 0x31 ∷ 0x36 ∷ 0x20 ∷ 0x30 ∷ 0x0A ∷ [])
+    ∷ unrun (inverse-known .bytes) (replicate 3 0xA5) (refused 11 4) (replicate 3 0xA5) (inverse-known .wanted .text)
     -- 11, place 7: a page under 3N+4 bytes (6), and one that is not (7): accepted
     ∷ unrun (m1 .bytes) (replicate 6 0xA5) (refused 11 7) (replicate 6 0xA5) (m1 .wanted .text)
     ∷ unrun (m1 .bytes) (replicate 7 0xA5) (done 1) (0x01 ∷ 0x04 ∷ 0x01 ∷ 0x02 ∷ 0x3D ∷ 0x03 ∷ 0x00 ∷ []) (m1 .wanted .text)
@@ -327,7 +421,7 @@ own =
     ∷ []
 
 abbrev pub table : List Example
-table = m1 ∷ m2 ∷ m3 ∷ m4 ∷ m5 ∷ m6 ∷ m7 ∷ m8 ∷ m9 ∷ m10 ∷ undone-by-terms ∷ wpa2 ∷ four-way ∷ hashed ∷ hash-key ∷ own
+table = m1 ∷ m2 ∷ m3 ∷ m4 ∷ m5 ∷ m6 ∷ m7 ∷ m8 ∷ m9 ∷ m10 ∷ undone-by-terms ∷ wpa2 ∷ four-way ∷ hashed ∷ hash-key ∷ guess-shown ∷ inverse-shown ∷ inverse-known ∷ own
 
 -- "what checking wrote on the page: three bytes for each step in the count that the acceptance carries, and four more"
 abbrev written : Answer → List ℕ → List ℕ
@@ -346,7 +440,7 @@ want e = e .wanted
 
 -- the one computed fact
 pub table-right : map got table ≡ map want table
-unfolding first firstFrom any grow decoded op cancelled parted paired match? isKey? headOf wordOf hasOne ruleTakesApart startOf badContents shapeOf recordAt term areInverse wayOf badTerm badKnowledge goodClaim checks1to4 checks1to5 registerTerm secondAt badStep unfounded checkSteps builtWithin round rounds entryMarks isDeducible relationOf instructionBytes bytesOf instructionAt badInstruction badTest badProgram guessed initial executed registers signals signal isPart isKnownPart isStale isStaleName runAnswer reachable samePremises undoesStep undone checks1to10 checkAnswer lowest instruction program digits stepLine testLine stepLines answerText verdictText Dec·and ℕ-discrete
+unfolding first firstFrom any grow decoded op cancelled parted paired match? isKey? headOf wordOf hasOne ruleTakesApart startOf badContents shapeOf recordAt term areInverse wayOf badTerm badKnowledge goodClaim checks1to4 checks1to5 registerTerm secondAt badStep unfounded registerCounts checkSteps builtWithin round rounds entryMarks isDeducible relationOf instructionBytes bytesOf instructionAt badInstruction badTest badProgram guessed initial executed registers signals signal isPart isKnownPart isStale isStaleName runAnswer reachable samePremises undoesStep undone entryGiven isGiven checksBeforePage checkAnswer lowest instruction program digits stepLine testLine stepLines answerText verdictText Dec·and ℕ-discrete
 table-right = refl
 
 -- what it says of each example

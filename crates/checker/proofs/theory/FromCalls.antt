@@ -1,4 +1,4 @@
--- The demands, and the promises of A1 and A4, from what the calls themselves return: a verdict or an answer, and the page after the call.
+-- The demands, and the promises of A1, A4 and A5, from what the calls themselves return: a verdict or an answer, and the page after the call.
 use mathlib.Core.Path.{_≡_, refl, sym, ap, _∙_, subst}
 use mathlib.Core.Logic.{_↔_, _⊎_, inl, inr, ⊎-elim, Iff·trans}
 use mathlib.Core.List.{List, [], _∷_}
@@ -12,10 +12,10 @@ use Rattle.base.specs.Answer.{Answer, done, refused, pageAfter, Writes, Clear, 
 use Rattle.base.specs.Words.{byte, Bytes}
 use Rattle.base.proofs.AnswerLaws.{refused-page}
 use Rattle.base.proofs.Says.{true-or-false, denies}
-use Rattle.base.proofs.RefusalLaws.{SomeHolds, refuses-some, clear-split}
+use Rattle.base.proofs.RefusalLaws.{SomeHolds, refuses-some, Numbers, some-number, both-numbers, clear-split}
 use Rattle.term.specs.{Term.asymmetric, Term.Match, Term.Stale, Step.Deducible}
 use Rattle.submission.specs.Record.{terms, steps, guess, nameAt, term, InKnowledge, guessed}
-use Rattle.submission.specs.{Body.Bodies, Body.bodiesOf, Body.submissionOf, Check.rows1and2, Check.rows1to4}
+use Rattle.submission.specs.{Body.Bodies, Body.bodiesOf, Body.submissionOf, Check.Target, Check.Claims, Check.verifier, Check.derived, Check.claims, Check.rows1and2, Check.rows1to4}
 use Rattle.form.specs.{Write.writeRows, Write.ReadsAs, Computed.writeAnswer, Calls.FormWritten}
 use Rattle.form.proofs.theory.{WriteAnswer.write-exact, RoundTrip.form-promise}
 use Rattle.inverse.specs.{Inverse.inversesRows, Inverse.InverseListed, Computed.inversesOf, Calls.InversesWritten}
@@ -27,8 +27,8 @@ use Rattle.machine.specs.{Run.StaleName, Run.programRows, Run.runRows, Run.sign
 use Rattle.machine.proofs.theory.{RunAnswer.says-stale-name, RunAnswer.run-exact, StaleNames.stale-exact, StaleNames.taken-clear, StaleNames.taken-fresh}
 use Rattle.conditions.specs.declared.Verdict.{Verdict}
 use Rattle.conditions.specs.declared.Verdict.the-variants.{Accepted, Refused}
-use Rattle.conditions.specs.{Calls.verdictAnswer, Calls.Checked, Calls.program, Condition.WellFormed, Condition.FiveConditions, Condition.checkRows, Demand.WrongGuess, Demand.KeptPromise}
-use Rattle.conditions.proofs.theory.{Acceptance.accepted-iff, Promise.demand-3, Refusal.check-exact}
+use Rattle.conditions.specs.{Calls.verdictAnswer, Calls.Checked, Calls.program, Condition.WellFormed, Condition.target, Condition.FiveConditions, Condition.claimRows, Condition.checkRows, Demand.WrongGuess, Demand.KeptPromise}
+use Rattle.conditions.proofs.theory.{Acceptance.accepted-iff, KnownGuess.target-deducible, KnownGuess.guess-hidden, Promise.demand-3, Refusal.check-exact}
 use Rattle.conditions.specs.Computed.{checkAnswer}
 use Rattle.checker.specs.Demand.{Demand1}
 
@@ -63,18 +63,31 @@ stands {bytes = bytes} {page} w e l =
     (rw (f, l, take-append-seam bytes (drop (length bytes) page)), rw (f, l, drop-append-seam bytes (drop (length bytes) page)))
 
 -- where rows 1 and 2 do not hold, the row that does has a higher number
+claim-from-3 : (s : List ℕ) (k : Claims) → Numbers (λ n. 3 ≤ n) (claimRows s k)
+claim-from-3 s verifier = (λ n p (e, _). omega arith, (λ n p (e, _). omega arith, (λ n p (e, _). omega arith, tt)))
+claim-from-3 s (derived t) = (λ n p (e, _). omega arith, tt)
+
 from-3 : (s : List ℕ) (room m p : ℕ) → Clear (rows1and2 s) → SomeHolds (checkRows s room) m p → 3 ≤ m
-from-3 s room m p c (inl h) = absurd (c .0 m p h)
-from-3 s room m p c (inr (inl h)) = absurd (c .1 .0 m p h)
-from-3 s room m p c (inr (inr (inl (e, _)))) = omega arith
-from-3 s room m p c (inr (inr (inr (inl (e, _))))) = omega arith
-from-3 s room m p c (inr (inr (inr (inr (inl (e, _)))))) = omega arith
-from-3 s room m p c (inr (inr (inr (inr (inr (inl (inl (e, _)))))))) = omega arith
-from-3 s room m p c (inr (inr (inr (inr (inr (inl (inr (e, _)))))))) = omega arith
-from-3 s room m p c (inr (inr (inr (inr (inr (inr (inl (e, _)))))))) = omega arith
-from-3 s room m p c (inr (inr (inr (inr (inr (inr (inr (inl (e, _))))))))) = omega arith
-from-3 s room m p c (inr (inr (inr (inr (inr (inr (inr (inr (inl (e, _)))))))))) = omega arith
-from-3 s room m p c (inr (inr (inr (inr (inr (inr (inr (inr (inr (inl (e, _))))))))))) = omega arith
+from-3 s room m p c =
+    some-number (λ n. 3 ≤ n) (checkRows s room) m p (
+      λ n p h. absurd (c .0 n p h),
+      (
+        λ n p h. absurd (c .1 .0 n p h),
+        (
+          λ n p (e, _). omega arith,
+          (
+            λ n p (e, _). omega arith,
+            (
+              λ n p (e, _). omega arith,
+              (
+                λ n p. ⊎-elim (λ (e, _). omega arith) (λ (e, _). omega arith),
+                both-numbers (λ n. 3 ≤ n) (claimRows s (claims s)) (row11 (programLength (steps s)) room ∷ []) (claim-from-3 s (claims s)) (λ n p (e, _). omega arith, tt),
+              ),
+            ),
+          ),
+        ),
+      ),
+    )
 
 -- ---- a call of `check` on s and page that returned v and left page′
 module _ (s page page′ : List ℕ) (v : Verdict) (bytes : Bytes s) (call : Checked s page v page′) where
@@ -94,6 +107,13 @@ module _ (s page page′ : List ℕ) (v : Verdict) (bytes : Bytes s) (call : Che
   pub call-keeps : (n : ℕ) → v ≡ Accepted n → KeptPromise s page n page′
   call-keeps n e =
       subst (KeptPromise s page n) (sym (call .bytes)) (demand-3 s page bytes n (returned-verdict v (Accepted n) (call .answer) .0 e))
+
+  -- A5: after an acceptance in ways k and j the guess, or its inverse, is deducible from the knowledge; in the other ways the guess is not
+  pub call-derives : (n : ℕ) → v ≡ Accepted n → (t : Target) → claims s ≡ derived t → Deducible (InKnowledge s) (target s t)
+  call-derives n e t k = let (_, w, c, _) = call-accepts n .0 e in target-deducible s w c t k
+
+  pub call-hides : (n : ℕ) → v ≡ Accepted n → claims s ≡ verifier → Deducible (InKnowledge s) (term s (guess s)) → ⊥
+  call-hides n e k = let (_, w, c, _) = call-accepts n .0 e in guess-hidden s w c k
 
   -- run takes that program
   program-clear : (n : ℕ) → v ≡ Accepted n → Clear (programRows s (take (programLength n) page′))

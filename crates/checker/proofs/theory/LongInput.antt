@@ -19,7 +19,7 @@ use Rattle.base.specs.Computed.{any}
 use Rattle.text.specs.Text.{answerText, refusedText}
 use Rattle.submission.specs.Computed.{badContents, checks1to4, checks1to5}
 use Rattle.checker.specs.Calls.{verdictText}
-use Rattle.conditions.specs.Computed.{checks1to10, checkAnswer}
+use Rattle.conditions.specs.Computed.{checksBeforePage, checkAnswer}
 
 -- the bodies end at byte 3,076 at the latest
 end-small : (s : List ℕ) → Bytes s → start s 4 ≤ 3076
@@ -34,7 +34,7 @@ long-contents s b l =
     (or-right (any (λ i. not (eqb (byte s (4 * i + 2) * 256 + byte s (4 * i + 3)) (start s i))) 4) _ e))
 
 pub long-refused : (s : List ℕ) → Bytes s → 3076 < length s → (page : ℕ) → checkAnswer s page ≡ refused 1 0
-unfolding checkAnswer checks1to10 checks1to5 checks1to4
+unfolding checkAnswer checksBeforePage checks1to5 checks1to4
 long-refused s b l page = rw (long-contents s b l)
 
 long-verdict : (s : List ℕ) → Bytes s → 3076 < length s → verdictText s ≡ refusedText 1 0

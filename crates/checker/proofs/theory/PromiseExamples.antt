@@ -1,4 +1,4 @@
--- Demand 3 at document 01's examples M3, M1 and M8, one for each way, and at three with hashes: its hypotheses can be met, and so can those of a
+-- Demand 3 at document 01's examples M3, M1 and M8, one for each way, at three with hashes, and at three of ways k and j: its hypotheses can be met, and so can those of a
 -- wrong guess.
 use mathlib.Core.Path.{_≡_, refl, ap, _∙_}
 use mathlib.Core.Logic.{Dec·and}
@@ -19,7 +19,7 @@ use Rattle.term.specs.Number.{shapeOf}
 use Rattle.program.specs.Program.{programLength, bytesOf}
 use Rattle.submission.specs.Computed.{isKnownPart, isStale}
 use Rattle.conditions.specs.Demand.{WrongGuess, KeptPromise}
-use Rattle.checker.proofs.theory.Examples.{Example, m1, m3, m8, wpa2, four-way, hashed, got, want, example-right}
+use Rattle.checker.proofs.theory.Examples.{Example, m1, m3, m8, wpa2, four-way, hashed, guess-shown, inverse-shown, inverse-known, got, want, example-right}
 use Rattle.conditions.proofs.theory.Acceptance.{accepted-iff}
 use Rattle.conditions.proofs.theory.Promise.{demand-3}
 use Rattle.conditions.specs.Calls.{program}
@@ -58,8 +58,10 @@ shown e n name g a l t page f =
     let p : KeptPromise s page n (pageAfter (checkAnswer s (length page)) (bytesOf (program s)) page) = demand-3 s page b n (accepted-iff s b (length page) n .1 (m, w, c, omega arith)) in
     (p, z, p .wrong name z)
 
--- one example for each way; WPA2, the four-way handshake, and a hash whose y of 0 is no part
-pub examples-shown : Shown m3 3 60000 × Shown m1 1 3 × Shown m8 1 9 × Shown wpa2 1 7 × Shown four-way 9 7 × Shown hashed 1 9
+-- one example for each of ways a, b and c; WPA2, the four-way handshake, and a hash whose y of 0 is no part; ways k and j, and j with 255
+pub examples-shown :
+    Shown m3 3 60000 × Shown m1 1 3 × Shown m8 1 9 × Shown wpa2 1 7 × Shown four-way 9 7 × Shown hashed 1 9
+    × Shown guess-shown 2 9 × Shown inverse-shown 1 6 × Shown inverse-known 0 6
 unfolding areBytes isWrongGuess isStale isKnownPart isPart any first firstFrom grow decoded startOf shapeOf recordAt term guessed Dec·and ℕ-discrete
 examples-shown = (
   shown m3 3 60000 (example-right 2 (lit< tt)) refl (lit≤ tt) refl,
@@ -68,4 +70,7 @@ examples-shown = (
   shown wpa2 1 7 (example-right 11 (lit< tt)) refl (lit≤ tt) refl,
   shown four-way 9 7 (example-right 12 (lit< tt)) refl (lit≤ tt) refl,
   shown hashed 1 9 (example-right 13 (lit< tt)) refl (lit≤ tt) refl,
+  shown guess-shown 2 9 (example-right 15 (lit< tt)) refl (lit≤ tt) refl,
+  shown inverse-shown 1 6 (example-right 16 (lit< tt)) refl (lit≤ tt) refl,
+  shown inverse-known 0 6 (example-right 17 (lit< tt)) refl (lit≤ tt) refl,
 )

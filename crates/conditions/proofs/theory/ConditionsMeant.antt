@@ -145,7 +145,6 @@ module _ {s : List ℕ} (c : Claimed s) (sound : (i : ℕ) → i < steps s → S
       let i = read .inverse-iff (conclusionAt s (verifying s)) (companion s) (sound _ (verifying-below c v) .conclusion-below) l in
       Iff·trans (says-and _ _ i (known-term (steps s) (companion s) (omega arith) l))
       (λ ((f, e), k). (f, e, k), λ (f, e, k). ((f, e), k))
-
   says-way v guess-derived l = (λ e. false≢true e, λ z. absurd z)
   says-way v inverse-derived l = (λ e. false≢true e, λ z. absurd z)
 

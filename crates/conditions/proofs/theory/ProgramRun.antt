@@ -53,7 +53,7 @@ module _ (s : List ℕ) where
   instruction-read i l =
       instruction-back (program s) (instruction s i) i (omega (arith, program-steps)) ∙ listed-at (instruction s) i (steps s) (instruction s i) l
 
-  operand-of : (i : ℕ) → operand (instruction s i) ≡ lowest s (secondAt s i)
+  pub operand-of : (i : ℕ) → operand (instruction s i) ≡ lowest s (secondAt s i)
   unfolding instruction secondAt
   operand-of i = go (hasOne (ruleAt s i))
     where

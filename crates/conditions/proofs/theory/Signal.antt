@@ -68,7 +68,7 @@ module _ (s : List ℕ) (bytes : Bytes s) (w : WellFormed s) (c : FiveConditions
   guess-right = claim .guess-term ∙ ap (λ o. atom (atomKind o) (nameAt s (guess s))) (sym (claim .guess-shape))
 
   -- what is known, by term numbers: the premises of a step, way b's term and way c's inverse
-  premises-known : (i : ℕ) → i < steps s → (isKnown s i (pAt s i) ≡ true) × (isKnown s i (secondAt s i) ≡ true)
+  pub premises-known : (i : ℕ) → i < steps s → (isKnown s i (pAt s i) ≡ true) × (isKnown s i (secondAt s i) ≡ true)
   premises-known i l =
       let f = founded-at claim (w .shaped) i l .1 (c .founded i l) in
       (first-known s i f, second-known s i f)
@@ -156,10 +156,14 @@ module _ (s : List ℕ) (bytes : Bytes s) (w : WellFormed s) (c : FiveConditions
 
   -- ways k and j: whatever is tried, the term claimed is where it is given
   module _ (name : ℕ) (t : Target) (k : claims s ≡ derived t) where
+    -- no step's register depends on the name
+    pub own-value : (i : ℕ) → i < steps s → value s name (steps s) (written s i) ≡ concluded s i
+    own-value = own-result name (λ z. absurd (false≢true (sym (ap guessCounts k) ∙ z)))
+
     given-value : Given s (target s t) → value s name (steps s) (named s (given-register t)) ≡ target s t
     given-value (inl (l, e)) =
         rw (ne-eqb (verifying s) knowledgeStep (λ q. omega (arith, claim .read .steps-most)))
-        (own-result name (λ z. absurd (false≢true (sym (ap guessCounts k) ∙ z))) (verifying s) l ∙ sym e)
+        (own-value (verifying s) l ∙ sym e)
     given-value (inr (q, i)) =
         let (r, f, l, e) = entry-gives t k i in
         rw (eq-eqb (verifying s) knowledgeStep q, f) (register-entry s name (bytesOf (program s)) (steps s) r l ∙ e)
