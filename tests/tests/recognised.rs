@@ -1,8 +1,9 @@
 //! The reference on guesses that are already known: ways j and k.
 
-use checker_tests::bodies::Bodies;
+use checker_tests::bodies::{self, Bodies};
+use checker_tests::generate::{claimed_term, Source};
 use checker_tests::notation::assemble;
-use checker_tests::reference::{check, code, deducible, program, run, verdict, REFUSAL};
+use checker_tests::reference::{check, code, deducible, program, run, verdict, Guesses, REFUSAL};
 use checker_tests::tables::{Kind, LONGEST_PROGRAM};
 
 /// A wrong guess of each submission here.
@@ -49,7 +50,7 @@ fn page(submission: &[u8]) -> Vec<u8> {
 
 fn own_name(submission: &[u8]) -> u16 {
     let bodies = Bodies::read(submission).unwrap();
-    checker_tests::bodies::name(bodies.terms[usize::from(bodies.claim[0])])
+    bodies::name(bodies.terms[usize::from(bodies.claim[0])])
 }
 
 #[test]
@@ -245,5 +246,29 @@ fn all_kinds_of_guess() {
         let way_j = text(&["plain 0", &guess], &[], [&guess, "knowledge", "j"]);
         let expected = if kind.inverse().is_some() { "refused 16 0" } else { "refused 5 0" };
         assert_eq!(first_line(&way_j), expected);
+    }
+}
+
+/// With many random claims: the term is deducible, and the page tells the right guess from the others.
+#[test]
+fn what_is_accepted_is_deducible() {
+    let mut source = Source::new(16);
+    let mut accepted = 0;
+    while accepted < 1000 {
+        let input = source.next_input();
+        let Ok(page) = program(&input.submission) else { continue };
+        let bodies = Bodies::read(&input.submission).unwrap();
+        let Some(term) = claimed_term(&bodies) else { continue };
+        assert_eq!(deducible(&input.submission, term), Ok(true), "{bodies:?}");
+        let mut guesses = Guesses::of(&input.submission).unwrap();
+        for name in input.names {
+            let expected = match (name == guesses.own(), guesses.is_stale(name)) {
+                (true, _) => 1,
+                (false, true) => 15 * REFUSAL,
+                (false, false) => 0,
+            };
+            assert_eq!(code(guesses.run(name, &page)), expected, "{name} {bodies:?}");
+        }
+        accepted += 1;
     }
 }

@@ -6,7 +6,7 @@ use super::steps::{builds, possible, premises, TermSet};
 use super::table::Table;
 use crate::bodies::Bodies;
 use crate::reference;
-use crate::tables::{Body, Claimed, Companion, Deducible, Kind, Way, IN_KNOWLEDGE};
+use crate::tables::{Body, Companion, Kind, Way, IN_KNOWLEDGE};
 
 /// The most counts of a protocol.
 pub struct Size {
@@ -63,7 +63,7 @@ fn atoms(random: &mut Random, table: &mut Table, way: Way) -> u8 {
         let kind = random.pick(&Kind::atoms());
         table.atom(kind, name);
     }
-    let kinds = if random.chance(5) { Kind::atoms() } else { way.guesses().to_vec() };
+    let kinds = if random.chance(10) { Kind::atoms() } else { way.guesses().to_vec() };
     let kind = random.pick(&kinds);
     let guess = table.atom(kind, base);
     if random.chance(80) {
@@ -129,18 +129,10 @@ fn telling_messages(random: &mut Random, table: &mut Table, guess: u8, way: Way)
         }
         Way::DeducibleInverse | Way::DeducibleGuess => {
             let also = Some(guess).filter(|_| random.chance(30));
-            let terms = claimed_term(table, guess, way).into_iter().chain(also);
+            let term = table.claimed(guess, way).unwrap_or(guess);
+            let terms = [term].into_iter().chain(also);
             terms.flat_map(|term| giving(random, table, guess, term)).collect()
         }
-    }
-}
-
-/// The term that is deducible in this way, if it is listed.
-fn claimed_term(table: &Table, guess: u8, way: Way) -> Option<u8> {
-    match way.claimed() {
-        Claimed::Verifier(_) => None,
-        Claimed::Deducible(Deducible::Guess) => Some(guess),
-        Claimed::Deducible(Deducible::Inverse) => table.inverse(guess),
     }
 }
 
@@ -164,7 +156,7 @@ fn giving(random: &mut Random, table: &mut Table, guess: u8, term: u8) -> Vec<u8
 /// its inverse is the key.
 fn wrapped(random: &mut Random, table: &mut Table, guess: u8, term: u8) -> (u8, Option<u8>) {
     let mut keys = table.of_kinds(&Kind::locking());
-    keys.retain(|&key| key != guess && table.inverse(guess) != Some(key));
+    keys.retain(|&key| !is_either(table, guess, key));
     if keys.is_empty() || random.chance(60) {
         let beside = any_term(random, table);
         let parts = random.pick(&[[term, beside], [beside, term]]);
@@ -347,8 +339,8 @@ fn is_accepted(bodies: &Bodies) -> bool {
     reference::program(&bodies.submission()).is_ok()
 }
 
-/// The claims for which the companion and the conclusion fit together, or for which the knowledge has
-/// the term claimed.
+/// The claims for which the companion and the conclusion fit together; where something is claimed to
+/// be deducible, those for which a step or the knowledge gives the guess or its inverse.
 fn plausible(bodies: &Bodies, table: &Table, guess: u8) -> Vec<[u8; 4]> {
     let mut claims = Vec::new();
     for way in Way::ALL {
@@ -357,10 +349,17 @@ fn plausible(bodies: &Bodies, table: &Table, guess: u8) -> Vec<[u8; 4]> {
             let companions = companions(bodies, table, guess, step, way);
             claims.extend(companions.iter().map(|&companion| claim(step as u8, companion)));
         }
-        let entry = claimed_term(table, guess, way).filter(|term| bodies.knowledge.contains(term));
-        claims.extend(entry.map(|_| claim(IN_KNOWLEDGE, 0)));
+        let is_known = |&entry: &u8| is_either(table, guess, entry);
+        if way.may_be_entry() && bodies.knowledge.iter().any(is_known) {
+            claims.push(claim(IN_KNOWLEDGE, 0));
+        }
     }
     claims
+}
+
+/// Whether the term is the guess or its inverse.
+fn is_either(table: &Table, guess: u8, term: u8) -> bool {
+    term == guess || table.inverse(guess) == Some(term)
 }
 
 /// The companions that may go with this step in this way.
@@ -380,8 +379,7 @@ fn companions(bodies: &Bodies, table: &Table, guess: u8, step: usize, way: Way) 
             table.inverse(verifier).filter(|&inverse| known(inverse)).into_iter().collect()
         }
         Way::DeducibleInverse | Way::DeducibleGuess => {
-            let is_claimed = claimed_term(table, guess, way) == Some(verifier);
-            is_claimed.then_some(0).into_iter().collect()
+            is_either(table, guess, verifier).then_some(0).into_iter().collect()
         }
     }
 }

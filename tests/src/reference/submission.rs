@@ -5,7 +5,7 @@ use std::collections::HashSet;
 use super::contents;
 use super::refusal::{refuse, Checked};
 use super::term::{Operands, Store, Term};
-use crate::tables::{used, Companion, Deducible, Kind, Reason, Way, IN_KNOWLEDGE};
+use crate::tables::{used, Deducible, Kind, Reason, Way, IN_KNOWLEDGE};
 
 /// A submission that passes checks 1 to 4. Derivation and claim are kept as records.
 pub struct Submission {
@@ -90,12 +90,8 @@ impl Submission {
             |term: &&Term| term.kind().is_some_and(|kind| way.guesses().contains(&kind));
         let guess = self.term(guess).filter(may_be_guess)?.clone();
         let named = self.named(step, way)?;
-        let companions = match way.companion() {
-            Companion::Step => self.derivation.len(),
-            Companion::Zero => 1,
-            Companion::Term => self.terms.len(),
-        };
         let companion = usize::from(companion);
+        let companions = way.companion().values(self.derivation.len(), self.terms.len());
         (companion < companions).then_some(Claim { guess, named, way, companion })
     }
 

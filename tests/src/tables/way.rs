@@ -75,6 +75,17 @@ pub enum Companion {
     Term,
 }
 
+impl Companion {
+    /// The number of its possible values, with so many steps and terms.
+    pub fn values(self, steps: usize, terms: usize) -> usize {
+        match self {
+            Companion::Step => steps,
+            Companion::Zero => 1,
+            Companion::Term => terms,
+        }
+    }
+}
+
 /// What stands for the number of a step where the term claimed is itself in the knowledge. No step
 /// has this number.
 pub const IN_KNOWLEDGE: u8 = 255;
