@@ -92,16 +92,10 @@ fn known_guesses() -> Vec<(String, Vec<u8>)> {
     let largest = |way, is_entry| shapes::largest_deducible(way, is_entry).submission();
     [
         ("typical, way k", typical_known()),
-        ("250 terms, 64 entries, 128 steps, way k, last step", largest(Way::DeducibleGuess, false)),
-        ("250 terms, 64 entries, 128 steps, way k, last entry", largest(Way::DeducibleGuess, true)),
-        (
-            "250 terms, 64 entries, 128 steps, way j, last step",
-            largest(Way::DeducibleInverse, false),
-        ),
-        (
-            "250 terms, 64 entries, 128 steps, way j, last entry",
-            largest(Way::DeducibleInverse, true),
-        ),
+        ("largest accepted, way k, last step", largest(Way::DeducibleGuess, false)),
+        ("largest accepted, way k, last entry", largest(Way::DeducibleGuess, true)),
+        ("largest accepted, way j, last step", largest(Way::DeducibleInverse, false)),
+        ("largest accepted, way j, last entry", largest(Way::DeducibleInverse, true)),
     ]
     .map(|(title, submission)| (title.to_string(), submission))
     .to_vec()

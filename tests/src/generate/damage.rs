@@ -191,7 +191,7 @@ fn change_claim(random: &mut Random, bodies: &mut Bodies) {
     let guess = bodies.claim[0];
     match random.below(7) {
         0 => bodies.claim[0] = random.below(count + 1) as u8,
-        1 => bodies.claim[1] = random.below(steps + 1) as u8,
+        1 => bodies.claim[1] = [random.below(steps + 1), steps][random.below(2)] as u8,
         2 => bodies.claim[1] = random.pick(&[IN_KNOWLEDGE, IN_KNOWLEDGE, IN_KNOWLEDGE - 1]),
         3 => bodies.claim[2] = other_way(random),
         4 => bodies.claim[3] = [random.below(count + 1), terms, steps][random.below(3)] as u8,

@@ -204,9 +204,9 @@ impl Source {
             Ok(bodies) if self.random.chance(95) => self.random.below(bodies.terms.len() + 1) as u8,
             _ => self.random.byte(),
         };
-        let numbers: Vec<u8> = (0..4).map(number).collect();
-        [numbers, bodies.ok().and_then(|bodies| claimed_term(&bodies)).into_iter().collect()]
-            .concat()
+        let mut asked: Vec<u8> = (0..4).map(number).collect();
+        asked.extend(bodies.ok().and_then(|bodies| claimed_term(&bodies)));
+        asked
     }
 
     /// Runs with the submission's own program, changed ones and others, each with one of its names;
@@ -249,7 +249,7 @@ impl Source {
     }
 }
 
-/// The number of the term that the claim says is deducible.
+/// The number of the term that the claim says is deducible, where it says so of a listed one.
 pub fn claimed_term(bodies: &Bodies) -> Option<u8> {
     let [guess, _, way, _] = bodies.claim;
     Table::of(&bodies.terms).claimed(guess, Way::from_letter(way)?)

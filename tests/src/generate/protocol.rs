@@ -51,7 +51,7 @@ fn one_protocol(random: &mut Random, size: &Size, way: Way) -> Bodies {
 }
 
 /// Lists atoms with few names, so that keys have inverses and kinds share names. Answers the guess,
-/// seldom one that it can't be in this way.
+/// now and then one that this way can't have.
 fn atoms(random: &mut Random, table: &mut Table, way: Way) -> u8 {
     let base = random.number() as u16;
     for _ in 0..random.between(1, 5) {
@@ -158,14 +158,22 @@ fn wrapped(random: &mut Random, table: &mut Table, guess: u8, term: u8) -> (u8, 
     let mut keys = table.of_kinds(&Kind::locking());
     keys.retain(|&key| !is_either(table, guess, key));
     if keys.is_empty() || random.chance(60) {
-        let beside = any_term(random, table);
-        let parts = random.pick(&[[term, beside], [beside, term]]);
-        return (table.compound(Kind::Pair, &parts), None);
+        return (paired(random, table, term), None);
     }
     let key = random.pick(&keys);
+    (locked(table, term, key), Some(opposite(table, key)))
+}
+
+/// A pair of the term and another.
+fn paired(random: &mut Random, table: &mut Table, term: u8) -> u8 {
+    let beside = any_term(random, table);
+    table.compound(Kind::Pair, &random.pick(&[[term, beside], [beside, term]]))
+}
+
+/// The term under the key.
+fn locked(table: &mut Table, term: u8, key: u8) -> u8 {
     let kind = table.kind(key).and_then(Kind::locked_by).expect("what it locks");
-    let whole = table.compound(kind, &[term, key]);
-    (whole, Some(opposite(table, key)))
+    table.compound(kind, &[term, key])
 }
 
 /// The key that opens what this one locks, and locks what this one opens: itself, or its inverse,
@@ -179,13 +187,10 @@ fn opposite(table: &mut Table, key: u8) -> u8 {
 fn hidden(random: &mut Random, table: &mut Table, guess: u8, term: u8) -> u8 {
     let mut message = term;
     for _ in 0..random.below(3) {
-        let beside = any_term(random, table);
-        let parts = random.pick(&[[message, beside], [beside, message]]);
-        message = table.compound(Kind::Pair, &parts);
+        message = paired(random, table, message);
     }
     let key = key_opened_by(random, table, guess);
-    let kind = table.kind(key).and_then(Kind::locked_by).expect("what it locks");
-    table.compound(kind, &[message, key])
+    locked(table, message, key)
 }
 
 /// A key that locks what the guess opens: itself, its inverse, or a hash that it gives.
@@ -200,8 +205,7 @@ fn key_opened_by(random: &mut Random, table: &mut Table, guess: u8) -> u8 {
 fn hashed(random: &mut Random, table: &mut Table, guess: u8) -> u8 {
     let mut hashed = guess;
     if random.chance(30) {
-        let beside = any_term(random, table);
-        hashed = table.compound(Kind::Pair, &random.pick(&[[guess, beside], [beside, guess]]));
+        hashed = paired(random, table, guess);
     }
     for _ in 0..random.pick(&[1, 1, 1, 2, 3]) {
         hashed = table.compound(Kind::Hash, &[hashed]);
@@ -323,7 +327,7 @@ fn claim(random: &mut Random, bodies: &Bodies, table: &Table, guess: u8, way: Wa
 
 /// A claim whose step and companion are any, most often within their ranges.
 fn any_claim(random: &mut Random, bodies: &Bodies, guess: u8, way: Way) -> [u8; 4] {
-    let step = match random.weighted(&[80, 16, 4]) {
+    let step = match random.weighted(&[64, 32, 4]) {
         0 => random.below(bodies.derivation.len().max(1)) as u8,
         1 => IN_KNOWLEDGE,
         _ => IN_KNOWLEDGE - 1,

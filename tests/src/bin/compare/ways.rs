@@ -11,7 +11,7 @@ use crate::tally::cells;
 /// A row: its title, in which ways it is counted and has to be reached, and whether it counts a check.
 type Row = (&'static str, fn(Way) -> bool, fn(&Case) -> bool);
 
-const ROWS: [Row; 22] = [
+const ROWS: [Row; 25] = [
     ("accepted, step", any, |case| case.is_accepted() && !case.by_entry()),
     ("accepted, 255", says_deducible, |case| case.is_accepted() && case.by_entry()),
     ("accepted, N = 0", says_deducible, |case| case.is_accepted() && case.steps() == 0),
@@ -27,12 +27,15 @@ const ROWS: [Row; 22] = [
     ("6 before 16", says_deducible, |case| case.is(Reason::Step) && !case.gives(case.claimed)),
     ("7 before 16", says_deducible, |case| case.is(Reason::Unfounded) && !case.gives(case.claimed)),
     ("7, guess missing", says_deducible, |case| case.lacks_guess()),
-    ("16, step", says_deducible, |case| case.is(Reason::NotShown) && !case.by_entry()),
-    ("16, step, other", says_deducible, |case| case.is_other() && !case.by_entry()),
-    ("16, 255", says_deducible, |case| case.is(Reason::NotShown) && case.by_entry()),
-    ("16, 255, other", says_deducible, |case| case.is_other() && case.by_entry()),
-    ("16, not listed", of_key, |case| case.is(Reason::NotShown) && case.claimed.is_none()),
-    ("16, short page", says_deducible, |case| case.is(Reason::NotShown) && case.is_short()),
+    ("16, step", says_deducible, |case| case.is_not_shown() && !case.by_entry()),
+    ("16, step, other", says_deducible, |case| case.gives_other() && !case.by_entry()),
+    ("16, step, by step", says_deducible, |case| case.is_shown_by_step() && !case.by_entry()),
+    ("16, step, by entry", says_deducible, |case| case.is_shown_by_entry()),
+    ("16, 255", says_deducible, |case| case.is_not_shown() && case.by_entry()),
+    ("16, 255, other", says_deducible, |case| case.gives_other() && case.by_entry()),
+    ("16, 255, by step", says_deducible, |case| case.is_shown_by_step() && case.by_entry()),
+    ("16, not listed", of_key, |case| case.is_not_shown() && case.claimed.is_none()),
+    ("16, short page", says_deducible, |case| case.is_not_shown() && case.is_short()),
     ("11", any, |case| case.is(Reason::Page)),
 ];
 
@@ -127,8 +130,8 @@ impl Case<'_> {
 
     /// The same, with the register of an entry.
     fn is_behind_entry(&self) -> bool {
-        let is_known = |term| self.knows(term);
-        self.is_accepted() && !self.by_entry() && self.claimed.is_some_and(is_known)
+        let is_known = self.claimed.is_some_and(|term| self.knows(term));
+        self.is_accepted() && !self.by_entry() && is_known
     }
 
     /// Whether it is accepted, and the guess is a premise.
@@ -168,9 +171,24 @@ impl Case<'_> {
         premises(&self.bodies.derivation[place]).iter().all(is_known_or_guess)
     }
 
+    fn is_not_shown(&self) -> bool {
+        self.is(Reason::NotShown)
+    }
+
     /// Whether it is refused with 16, and what is given is the other one of the guess and its inverse.
-    fn is_other(&self) -> bool {
-        self.is(Reason::NotShown) && self.gives(self.other)
+    fn gives_other(&self) -> bool {
+        self.is_not_shown() && self.gives(self.other)
+    }
+
+    /// Whether it is refused with 16, and a step that it doesn't name concludes the term claimed.
+    fn is_shown_by_step(&self) -> bool {
+        let is_concluded = |term| self.is_concluded(self.steps(), term);
+        self.is_not_shown() && self.claimed.is_some_and(is_concluded)
+    }
+
+    /// The same, with an entry of the knowledge.
+    fn is_shown_by_entry(&self) -> bool {
+        self.is_not_shown() && self.claimed.is_some_and(|term| self.knows(term))
     }
 
     fn is_short(&self) -> bool {
