@@ -98,6 +98,7 @@ fn section(text: &str, title: &str) -> Vec<String> {
     lines.map_while(|line| line.strip_prefix("  ")).map(String::from).collect()
 }
 
+/// The guess doesn't count as a constant, and may stand anywhere.
 #[test]
 fn public_constants_are_known_and_come_first() {
     for name in by_rule() {
@@ -105,7 +106,8 @@ fn public_constants_are_known_and_come_first() {
         let guess = section(&text, "claim")[0].replace("guess ", "");
         let mut constants = section(&text, "terms");
         constants.retain(|term| PUBLIC.contains(&term.as_str()) && *term != guess);
-        let known = section(&text, "knowledge");
+        let mut known = section(&text, "knowledge");
+        known.retain(|term| *term != guess);
         assert!(known.starts_with(&constants), "{name}: {constants:?}, known are {known:?}");
     }
 }

@@ -2,11 +2,12 @@
 
 use checker_tests::bodies::Bodies;
 use checker_tests::generate::shapes::{
-    atoms, built, filled, hash_key_chain, largest_built, locked_by_hashes, nested,
-    nested_hash_keys, nested_pairs, private_key_chain, tower, Naming, Nesting, Order, Secrets,
+    atoms, built, filled, hash_key_chain, largest, largest_built, largest_deducible,
+    locked_by_hashes, nested, nested_hash_keys, nested_pairs, private_key_chain, tower, Naming,
+    Nesting, Order, Secrets,
 };
 use checker_tests::reference::{deducible, verdict};
-use checker_tests::tables::{Body, Kind};
+use checker_tests::tables::{Body, Kind, Way};
 
 fn first_line(bodies: &Bodies) -> String {
     verdict(&bodies.submission()).lines().next().unwrap().to_string()
@@ -69,10 +70,23 @@ fn nested_terms_are_built_where_their_atom_is_known() {
 
 #[test]
 fn the_most_steps_are_accepted() {
-    for nesting in [Nesting::Enca, Nesting::Hashes] {
-        let bodies = largest_built(nesting);
+    let mut shapes = vec![largest()];
+    shapes.extend([Nesting::Enca, Nesting::Hashes].map(largest_built));
+    for way in [Way::DeducibleInverse, Way::DeducibleGuess] {
+        shapes.extend([false, true].map(|is_entry| largest_deducible(way, is_entry)));
+    }
+    for bodies in shapes {
         assert_eq!([bodies.terms.len(), bodies.knowledge.len()], [250, 64]);
         assert_eq!(first_line(&bodies), "accepted 128");
+    }
+}
+
+#[test]
+fn what_is_deducible_comes_last() {
+    for (way, term) in [(Way::DeducibleInverse, 1), (Way::DeducibleGuess, 0)] {
+        let [by_step, by_entry] = [false, true].map(|is_entry| largest_deducible(way, is_entry));
+        assert_eq!((by_step.claim[1], by_step.derivation[127][3]), (127, term));
+        assert_eq!((by_entry.claim[1], by_entry.knowledge[63]), (255, term));
     }
 }
 

@@ -16,7 +16,7 @@ use checker_tests::examples;
 use checker_tests::generate::shapes::{self, Naming, Nesting, Order, Secrets};
 use checker_tests::generate::{padded, repeated, shortest, Form, UNLISTED};
 use checker_tests::reference::{self, code, Guesses};
-use checker_tests::tables::{Body, Kind, Rule, Test, LONGEST_PROGRAM, LONGEST_SUBMISSION};
+use checker_tests::tables::{Body, Kind, Rule, Test, Way, LONGEST_PROGRAM, LONGEST_SUBMISSION};
 
 /// The shortest time to measure, and how many measurements the fastest is taken of. Short ones end
 /// before another process gets the processor.
@@ -35,7 +35,7 @@ const TYPICAL: &str = "003-needham-schroeder-kas";
 
 fn main() {
     let verdict = env::args_os().nth(1).expect("usage: measure VERDICT");
-    for (title, submission) in submissions() {
+    for (title, submission) in submissions().into_iter().chain(known_guesses()) {
         measure_check(&title, &submission);
     }
     for (title, submission) in submissions().into_iter().chain(growing()) {
@@ -85,6 +85,29 @@ fn submissions() -> Vec<(String, Vec<u8>)> {
         ),
     ];
     [submissions, chains()].concat()
+}
+
+/// Submissions in the ways in which the guess or its inverse is deducible.
+fn known_guesses() -> Vec<(String, Vec<u8>)> {
+    let largest = |way, is_entry| shapes::largest_deducible(way, is_entry).submission();
+    [
+        ("typical, way k", typical_known()),
+        ("largest accepted, way k, last step", largest(Way::DeducibleGuess, false)),
+        ("largest accepted, way k, last entry", largest(Way::DeducibleGuess, true)),
+        ("largest accepted, way j, last step", largest(Way::DeducibleInverse, false)),
+        ("largest accepted, way j, last entry", largest(Way::DeducibleInverse, true)),
+    ]
+    .map(|(title, submission)| (title.to_string(), submission))
+    .to_vec()
+}
+
+/// The typical example with its nonce as the guess, which its last two steps take out of a message.
+fn typical_known() -> Vec<u8> {
+    let mut bodies = bodies(&examples::submission(TYPICAL));
+    bodies.derivation.drain(..bodies.derivation.len() - 2);
+    let [.., nonce] = bodies.derivation[1];
+    bodies.claim = [nonce, 1, Way::DeducibleGuess.letter(), 0];
+    bodies.submission()
 }
 
 /// Messages of which each opened one gives the key of the next.

@@ -4,7 +4,7 @@ use super::random::Random;
 use super::steps::{around, builds};
 use super::table::Table;
 use crate::bodies::Bodies;
-use crate::tables::{unclaimed, Kind, Rule, Way, CONTENTS_SIZE};
+use crate::tables::{unclaimed, Kind, Rule, Way, CONTENTS_SIZE, IN_KNOWLEDGE};
 
 /// The bodies with one change to their records.
 pub fn changed_records(random: &mut Random, bodies: &Bodies) -> Bodies {
@@ -186,12 +186,16 @@ fn undo_step(random: &mut Random, bodies: &mut Bodies) {
 }
 
 fn change_claim(random: &mut Random, bodies: &mut Bodies) {
-    let count = bodies.terms.len().max(bodies.derivation.len());
-    match random.below(5) {
+    let (terms, steps) = (bodies.terms.len(), bodies.derivation.len());
+    let count = terms.max(steps);
+    let guess = bodies.claim[0];
+    match random.below(7) {
         0 => bodies.claim[0] = random.below(count + 1) as u8,
-        1 => bodies.claim[1] = random.below(bodies.derivation.len() + 1) as u8,
-        2 => bodies.claim[2] = other_way(random),
-        3 => bodies.claim[3] = random.below(count + 1) as u8,
+        1 => bodies.claim[1] = [random.below(steps + 1), steps][random.below(2)] as u8,
+        2 => bodies.claim[1] = random.pick(&[IN_KNOWLEDGE, IN_KNOWLEDGE, IN_KNOWLEDGE - 1]),
+        3 => bodies.claim[2] = other_way(random),
+        4 => bodies.claim[3] = [random.below(count + 1), terms, steps][random.below(3)] as u8,
+        5 => bodies.claim[0] = Table::of(&bodies.terms).inverse(guess).unwrap_or(guess),
         _ => change_byte(random, &mut bodies.claim),
     }
 }

@@ -4,9 +4,9 @@
 use super::names::Names;
 use super::program::{repeated, shortest};
 use super::shapes::{self, Naming, Nesting};
-use super::{Form, Input, UNLISTED};
+use super::{claimed_term, Form, Input, UNLISTED};
 use crate::bodies::Bodies;
-use crate::tables::{Body, Kind, Rule, Test, LONGEST_PROGRAM, LONGEST_SUBMISSION};
+use crate::tables::{Body, Kind, Rule, Test, Way, LONGEST_PROGRAM, LONGEST_SUBMISSION};
 
 /// The inputs, each with a title.
 pub fn deepest() -> Vec<(String, Input)> {
@@ -29,17 +29,27 @@ pub fn deepest() -> Vec<(String, Input)> {
             shapes::atoms(&[Kind::Public, Kind::Private], Naming::OneLowByte),
         ),
     ]);
+    for way in [Way::DeducibleInverse, Way::DeducibleGuess] {
+        for (word, is_entry) in [("last step", false), ("last entry", true)] {
+            let title = format!("the most steps, way {}, {word}", char::from(way.letter()));
+            titled.push((title, shapes::largest_deducible(way, is_entry)));
+        }
+    }
     titled.into_iter().map(|(title, bodies)| (title, input(&bodies))).collect()
 }
 
-/// Asks for the last three terms, of which one is the deepest, for the first and for one too many.
+/// Asks for the last three terms, of which one is the deepest, for the first, for one too many, and
+/// for the term claimed.
 fn input(bodies: &Bodies) -> Input {
     let submission = bodies.submission();
     let names = [Names::of(&submission).own_and_parts(), vec![UNLISTED]].concat();
     let terms = bodies.terms.len() as u8;
     Input {
         page: vec![0xA5; LONGEST_PROGRAM],
-        asked: vec![terms - 3, terms - 2, terms - 1, 0, terms],
+        asked: [terms - 3, terms - 2, terms - 1, 0, terms]
+            .into_iter()
+            .chain(claimed_term(bodies))
+            .collect(),
         runs: runs(bodies, &names),
         names,
         forms: vec![Form::new(bodies.bytes(), LONGEST_SUBMISSION)],

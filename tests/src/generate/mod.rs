@@ -16,7 +16,7 @@ mod table;
 
 use crate::bodies::{self, Bodies};
 use crate::reference::{self, contents};
-use crate::tables::{program_length, Body, LONGEST_PROGRAM};
+use crate::tables::{program_length, Body, Way, LONGEST_PROGRAM};
 use names::Names;
 use program::Registers;
 use protocol::{protocol, Size};
@@ -27,13 +27,15 @@ pub use deepest::deepest;
 pub use form::Form;
 pub use limits::padded;
 pub use program::{repeated, shortest};
+pub use steps::premises;
+pub use table::Table;
 
 /// What one round of the comparison uses.
 pub struct Input {
     pub submission: Vec<u8>,
     /// The page before the check.
     pub page: Vec<u8>,
-    /// Term numbers to ask for.
+    /// Term numbers to ask for. That of a term which is claimed to be deducible is among them.
     pub asked: Vec<u8>,
     /// Names and programs to run: among others, each of the names below with a short program.
     pub runs: Vec<(u16, Vec<u8>)>,
@@ -76,7 +78,7 @@ impl Source {
         let tried = names.tried(&mut self.random);
         Input {
             page: self.page(&submission),
-            asked: (0..4).map(|_| self.asked(&submission)).collect(),
+            asked: self.asked(&submission),
             runs: self.runs(&submission, &names, &tried),
             names: tried,
             forms: self.forms(&submission),
@@ -195,11 +197,16 @@ impl Source {
         self.random.bytes(length)
     }
 
-    fn asked(&mut self, submission: &[u8]) -> u8 {
-        match Bodies::read(submission) {
+    /// Some numbers, most often of listed terms, and that of the term claimed.
+    fn asked(&mut self, submission: &[u8]) -> Vec<u8> {
+        let bodies = Bodies::read(submission);
+        let number = |_| match &bodies {
             Ok(bodies) if self.random.chance(95) => self.random.below(bodies.terms.len() + 1) as u8,
             _ => self.random.byte(),
-        }
+        };
+        let mut asked: Vec<u8> = (0..4).map(number).collect();
+        asked.extend(bodies.ok().and_then(|bodies| claimed_term(&bodies)));
+        asked
     }
 
     /// Runs with the submission's own program, changed ones and others, each with one of its names;
@@ -240,6 +247,12 @@ impl Source {
         let short = over + self.random.below(terms);
         [0, terms - 1, terms, longer, short].map(|length| self.random.bytes(length)).to_vec()
     }
+}
+
+/// The number of the term that the claim says is deducible, where it says so of a listed one.
+pub fn claimed_term(bodies: &Bodies) -> Option<u8> {
+    let [guess, _, way, _] = bodies.claim;
+    Table::of(&bodies.terms).claimed(guess, Way::from_letter(way)?)
 }
 
 /// A new protocol of some size, small ones more often.

@@ -5,7 +5,7 @@ use super::limits::padded;
 use super::steps::{building, step};
 use super::table::Table;
 use crate::bodies::Bodies;
-use crate::tables::{Body, Kind, Rule, Way};
+use crate::tables::{Body, Kind, Rule, Way, IN_KNOWLEDGE};
 
 /// The first name of the atoms that a shape adds.
 pub const FRESH: u16 = 100;
@@ -73,16 +73,44 @@ pub fn largest() -> Bodies {
         nested.push(table.compound(Kind::Pair, &[beside, nested[level]]));
     }
     let message = table.compound(Kind::Enc, &[nested[levels], guess]);
-    let taking = nested.windows(2).rev().map(|parts| step(Rule::Snd, &[parts[1]], parts[0]));
+    let opening = step(Rule::Dec, &[message, guess], nested[levels]);
     Bodies {
         terms: table.records,
         knowledge: [message].into_iter().chain(atoms).take(Body::Knowledge.most()).collect(),
-        derivation: [step(Rule::Dec, &[message, guess], nested[levels])]
-            .into_iter()
-            .chain(taking)
-            .collect(),
+        derivation: [vec![opening], taking_seconds(&nested)].concat(),
         claim: [guess, levels as u8, Way::KnownBefore.letter(), 0],
     }
+}
+
+/// The steps that take the first of these terms out of the last. Each term after the first is a pair,
+/// and the former its second part.
+fn taking_seconds(nested: &[u8]) -> Vec<[u8; 4]> {
+    nested.windows(2).rev().map(|parts| step(Rule::Snd, &[parts[1]], parts[0])).collect()
+}
+
+/// Accepted in this way, which says that the guess or its inverse is deducible, with all counts at
+/// their limits: the steps take that term out of nested pairs. The claim names the last of them, or
+/// the term is the last entry of the knowledge.
+pub fn largest_deducible(way: Way, is_entry: bool) -> Bodies {
+    let mut table = Table::default();
+    let guess = table.atom(Kind::Public, 0);
+    table.atom(Kind::Private, 0);
+    let beside = table.atom(Kind::Plain, 0);
+    let term = table.claimed(guess, way).expect("a term that is claimed");
+    let steps = Body::Derivation.most();
+    let terms = table.records.len() + steps;
+    let nested = Nesting::RightPairs.nest(&mut table, term, beside, terms);
+    let last = if is_entry { IN_KNOWLEDGE } else { (steps - 1) as u8 };
+    let bodies = Bodies {
+        terms: table.records,
+        knowledge: vec![nested[steps - 1]],
+        derivation: taking_seconds(&[vec![term], nested].concat()),
+        claim: [guess, last, way.letter(), 0],
+    };
+    let known = Body::Knowledge.most() - usize::from(is_entry);
+    let mut bodies = padded(&bodies, Body::Terms.most(), known, steps);
+    bodies.knowledge.extend(is_entry.then_some(term));
+    bodies
 }
 
 /// How atoms are named: so that both bytes of their names differ, or the high byte only.

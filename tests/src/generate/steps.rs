@@ -63,7 +63,7 @@ pub fn step(rule: Rule, premises: &[u8], conclusion: u8) -> [u8; 4] {
 
 /// The premises of a step with a rule.
 pub fn premises([rule, premises @ .., _]: &[u8; 4]) -> &[u8] {
-    let rule = Rule::from_number(*rule).expect("a step of the generator has a rule");
+    let rule = Rule::from_number(*rule).expect("a step with a rule");
     &premises[..rule.operands()]
 }
 

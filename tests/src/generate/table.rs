@@ -2,7 +2,7 @@
 
 use std::collections::HashMap;
 
-use crate::tables::{padded, Kind, Rule};
+use crate::tables::{padded, Claimed, Deducible, Kind, Rule, Way};
 
 #[derive(Default)]
 pub struct Table {
@@ -94,6 +94,15 @@ impl Table {
         let (kind, name) = self.as_atom(number)?;
         let [high, low] = name.to_be_bytes();
         self.numbers.get(&[kind.inverse()?.number(), high, low]).copied()
+    }
+
+    /// The listed number of the term that a claim in this way says is deducible.
+    pub fn claimed(&self, guess: u8, way: Way) -> Option<u8> {
+        match way.claimed() {
+            Claimed::Verifier(_) => None,
+            Claimed::Deducible(Deducible::Guess) => Some(guess),
+            Claimed::Deducible(Deducible::Inverse) => self.inverse(guess),
+        }
     }
 
     /// The listed terms of one of the kinds.

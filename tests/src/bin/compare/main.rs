@@ -12,6 +12,7 @@ mod names;
 mod rows;
 mod runs;
 mod tally;
+mod ways;
 
 use std::fmt::{self, Display};
 use std::process::ExitCode;
@@ -21,7 +22,7 @@ use answers::{answers, Answers, STACK};
 use checker_tests::arguments::seed_and_count;
 use checker_tests::bodies::Bodies;
 use checker_tests::examples;
-use checker_tests::generate::{deepest, Input, Source};
+use checker_tests::generate::{claimed_term, deepest, Input, Source};
 use checker_tests::reference::{self, code, REFUSAL};
 use checker_tests::tables::Call;
 use forms::compare_form;
@@ -121,7 +122,8 @@ fn compare_input(input: &Input, found: &Answers, tally: &mut Tally) -> Result<()
     compare_inverses(input, &found.inverses, tally)
 }
 
-/// The verdict and the whole page; and where the submission is accepted, what the page signals.
+/// The verdict and the whole page; and where the submission is accepted, what the page signals, and
+/// that the term claimed is deducible.
 fn compare_check(input: &Input, found: &Answers, tally: &mut Tally) -> Result<(), String> {
     let mut expected_page = input.page.clone();
     let expected = reference::check(&input.submission, &mut expected_page);
@@ -129,15 +131,30 @@ fn compare_check(input: &Input, found: &Answers, tally: &mut Tally) -> Result<()
     same(input, &call, code(expected), found.check)?;
     same_bytes(input, &call, &expected_page, &found.page)?;
     tally.count(Call::Check, expected.map(|_| true));
+    let Ok(bodies) = Bodies::read(&input.submission) else {
+        return Ok(());
+    };
+    tally.ways.count(&bodies, input.page.len(), expected);
     match expected {
-        Ok(_) => compare_page_runs(input, &found.page_runs, tally),
+        Ok(_) => {
+            compare_page_runs(input, &found.page_runs, tally)?;
+            compare_claimed(input, &bodies, &found.deducible)
+        }
         Err(refusal) => {
-            if let Ok(bodies) = Bodies::read(&input.submission) {
-                tally.rows.count_refused(&bodies, refusal);
-            }
+            tally.rows.count_refused(&bodies, refusal);
             Ok(())
         }
     }
+}
+
+/// The term that an accepted claim says is deducible, where it says so, is deducible.
+fn compare_claimed(input: &Input, bodies: &Bodies, found: &[u32]) -> Result<(), String> {
+    let Some(term) = claimed_term(bodies) else {
+        return Ok(());
+    };
+    let asked = input.asked.iter().position(|&asked| asked == term);
+    let asked = asked.expect("the term claimed is asked for");
+    same(input, format_args!("deducible {term}, which is claimed"), 1, found[asked])
 }
 
 fn same(input: &Input, call: impl Display, expected: u32, found: u32) -> Result<(), String> {

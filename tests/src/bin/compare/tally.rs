@@ -9,6 +9,7 @@ use checker_tests::tables::{Body, Call, Kind, Reason, Way};
 use crate::keys::Keys;
 use crate::names::Names;
 use crate::rows::Rows;
+use crate::ways::Ways;
 
 /// The answers of one call: accepted, yes or 1; no or 0; the refusals by number; and those for a
 /// count by their place, which is that of the body.
@@ -27,6 +28,7 @@ pub struct Tally {
     places: [Option<(usize, usize)>; Reason::ALL.len()],
     /// Accepted submissions by way and by kind of guess.
     accepted: [[u64; Kind::ALL.len()]; Way::ALL.len()],
+    pub ways: Ways,
     pub rows: Rows,
     pub names: Names,
     pub keys: Keys,
@@ -80,6 +82,8 @@ impl Tally {
             println!("{counts}");
         }
         println!();
+        self.ways.print();
+        println!();
         self.rows.print();
         println!();
         self.names.print();
@@ -94,24 +98,20 @@ impl Tally {
         println!("{counts}  {places}");
     }
 
-    /// Fails where one of a call's refusals, a count at one of the places, an acceptance, a way, a
-    /// kind of guess, a row of the tables of kinds and rules, a row of names or a row of inverses was
-    /// never reached, or where no submission was written again.
+    /// Fails where one of a call's refusals, a count at one of the places, an acceptance, a kind of
+    /// guess in a way that may have it, a row of claims, of the tables of kinds and rules, of names or
+    /// of inverses was never reached, or where no submission was written again.
     pub fn complete(&self) -> Result<(), String> {
         let mut missing: Vec<String> = Call::ALL
             .into_iter()
             .flat_map(|call| self.answers[call as usize].missing(call))
             .collect();
         for way in Way::ALL {
-            if self.accepted[way as usize].iter().sum::<u64>() == 0 {
-                missing.push(way_title(way));
-            }
+            let counts = &self.accepted[way as usize];
+            let never = way.guesses().iter().filter(|&&kind| counts[kind as usize] == 0);
+            missing.extend(never.map(|kind| format!("{}: {} guess", way_title(way), kind.word())));
         }
-        for kind in Kind::atoms() {
-            if self.accepted.iter().all(|row| row[kind as usize] == 0) {
-                missing.push(format!("a guess of kind {}", kind.number()));
-            }
-        }
+        missing.extend(self.ways.missing());
         missing.extend(self.rows.missing());
         missing.extend(self.names.missing());
         missing.extend(self.keys.missing());
