@@ -58,7 +58,9 @@ fn a_fault_names_its_line() {
         ("dec(message, plain 2)", "hash(n, n, n)", 11, "one term is expected"),
         ("dec(message, plain 2)", "rule9(n)", 11, "two terms are expected"),
         ("guess plain 2", "step 0", 13, "`guess` is expected"),
-        ("step 0", "step 256", 14, "`256` is no number below 256"),
+        ("step 0", "step 256", 14, "`256` is no number below 256, nor `knowledge`"),
+        ("step 0", "step known", 14, "`known` is no number below 256, nor `knowledge`"),
+        ("way b", "way z", 15, "`z` is no number below 256"),
         ("way b", "way a", 15, "`companion` is missing"),
         ("  way b", "  way b\n  companion 0\n  companion 0", 17, "the claim has no further line"),
         ("  way b\n", "", 14, "`way` is missing"),
@@ -82,6 +84,25 @@ fn a_hash_has_one_term() {
     let bodies = Bodies::read(&submission).unwrap();
     assert_eq!((bodies.terms[2], bodies.derivation[0]), ([7, 0, 0], [7, 0, 0, 2]));
     assert_eq!(show(&submission), Ok(text));
+}
+
+#[test]
+fn an_entry_takes_the_place_of_a_step() {
+    for (way, word, shown) in [
+        ("j", "knowledge", "knowledge"),
+        ("k", "knowledge", "knowledge"),
+        ("k", "255", "knowledge"),
+        ("b", "knowledge", "255"),
+        ("9", "knowledge", "255"),
+        ("k", "254", "254"),
+    ] {
+        let claim = |step| format!("step {step}\n  way {way}\n");
+        let text = TEXT.replace("step 0\n  way b\n", &claim(word));
+        let submission = assemble(&text).unwrap();
+        let text = show(&submission).unwrap();
+        assert!(text.ends_with(&claim(shown)), "{text}");
+        assert_eq!(assemble(&text), Ok(submission));
+    }
 }
 
 /// What the checker refuses is written down all the same: a second term.

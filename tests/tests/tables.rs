@@ -4,7 +4,10 @@ use std::collections::HashSet;
 use std::fmt::Debug;
 use std::hash::Hash;
 
-use checker_tests::tables::{unclaimed, Body, Call, Kind, Opener, Reason, Rule, Test, Way};
+use checker_tests::tables::{
+    unclaimed, Body, Call, Claimed, Companion, Deducible, Kind, Opener, Reason, Rule, SecondWay,
+    Test, Way, IN_KNOWLEDGE,
+};
 
 fn assert_distinct<T: Eq + Hash + Debug>(column: impl IntoIterator<Item = T>) {
     let mut seen = HashSet::new();
@@ -52,6 +55,25 @@ fn the_columns_agree() {
         };
         assert!(fits, "{rule:?}");
     }
+    for way in Way::ALL {
+        let guesses = way.guesses();
+        let is_guess = |kind: &Kind| match way.claimed() {
+            Claimed::Deducible(Deducible::Inverse) => kind.inverse().is_some(),
+            _ => true,
+        };
+        let kinds: Vec<Kind> = Kind::atoms().into_iter().filter(is_guess).collect();
+        assert_eq!(guesses, kinds, "{way:?}");
+        let is_verifier = matches!(way.claimed(), Claimed::Verifier(_));
+        assert_eq!([way.knows_guess(), way.may_be_entry()], [is_verifier, !is_verifier], "{way:?}");
+        let (companion, test) = match way.claimed() {
+            Claimed::Verifier(SecondWay::AnotherStep) => (Companion::Step, Test::Equal),
+            Claimed::Verifier(SecondWay::Inverse) => (Companion::Term, Test::HasInverse),
+            Claimed::Deducible(Deducible::Inverse) => (Companion::Zero, Test::HasInverse),
+            _ => (Companion::Zero, Test::Equal),
+        };
+        assert!(way.companion() == companion && way.test() == test, "{way:?}");
+    }
+    assert!(usize::from(IN_KNOWLEDGE) >= Body::Derivation.most());
     for reason in Reason::ALL {
         assert!(Call::ALL.iter().any(|call| call.refusals().contains(&reason)), "{reason:?}");
     }

@@ -6,7 +6,7 @@ use super::steps::{builds, possible, premises, TermSet};
 use super::table::Table;
 use crate::bodies::Bodies;
 use crate::reference;
-use crate::tables::{Body, Kind, Way};
+use crate::tables::{Body, Claimed, Companion, Deducible, Kind, Way, IN_KNOWLEDGE};
 
 /// The most counts of a protocol.
 pub struct Size {
@@ -35,23 +35,24 @@ pub fn protocol(random: &mut Random, size: &Size) -> Bodies {
 
 fn one_protocol(random: &mut Random, size: &Size, way: Way) -> Bodies {
     let mut table = Table::default();
-    let guess = atoms(random, &mut table);
+    let guess = atoms(random, &mut table, way);
     for _ in 0..random.between(1, size.compounds) {
         compound(random, &mut table, guess);
     }
     let telling = telling_messages(random, &mut table, guess, way);
-    let mut knowledge = overheard(random, &table, guess, &telling);
+    let mut knowledge = overheard(random, &table, guess, &telling, way);
     if random.chance(5) {
         forget(&table, guess, &mut knowledge);
     }
-    let derivation = walk(random, &table, &knowledge, guess, size.steps);
+    let derivation = walk(random, &table, &knowledge, guess, way, size.steps);
     let mut bodies = Bodies { terms: table.records.clone(), knowledge, derivation, claim: [0; 4] };
     bodies.claim = claim(random, &bodies, &table, guess, way);
     bodies
 }
 
-/// Lists atoms with few names, so that keys have inverses and kinds share names. Answers the guess.
-fn atoms(random: &mut Random, table: &mut Table) -> u8 {
+/// Lists atoms with few names, so that keys have inverses and kinds share names. Answers the guess,
+/// seldom one that it can't be in this way.
+fn atoms(random: &mut Random, table: &mut Table, way: Way) -> u8 {
     let base = random.number() as u16;
     for _ in 0..random.between(1, 5) {
         let name = base.wrapping_add(random.below(6) as u16);
@@ -62,7 +63,8 @@ fn atoms(random: &mut Random, table: &mut Table) -> u8 {
         let kind = random.pick(&Kind::atoms());
         table.atom(kind, name);
     }
-    let kind = random.pick(&Kind::atoms());
+    let kinds = if random.chance(5) { Kind::atoms() } else { way.guesses().to_vec() };
+    let kind = random.pick(&kinds);
     let guess = table.atom(kind, base);
     if random.chance(80) {
         // The inverse, or beside a guess without one a key of the same name.
@@ -105,9 +107,10 @@ fn key(random: &mut Random, table: &Table, guess: u8, kinds: &[Kind]) -> Option<
     (!from.is_empty()).then(|| random.pick(&from))
 }
 
-/// Messages that may verify the guess in this way: two that hide the same term, one that hides a
-/// term that is known, or one that hides a key whose inverse is known or hidden as well. Now and then
-/// the guess gives the term too, without the message.
+/// Messages that may show what is claimed in this way. For a verifier: two that hide the same term,
+/// one that hides a term that is known, or one that hides a key whose inverse is known or hidden as
+/// well; now and then the guess gives the term too, without the message. For a term that is
+/// deducible: those that give it away, and now and then the guess too.
 fn telling_messages(random: &mut Random, table: &mut Table, guess: u8, way: Way) -> Vec<u8> {
     let term =
         if random.chance(20) { hashed(random, table, guess) } else { any_term(random, table) };
@@ -124,7 +127,60 @@ fn telling_messages(random: &mut Random, table: &mut Table, guess: u8, way: Way)
             let hide_both = random.chance(50);
             vec![message, if hide_both { hidden(random, table, guess, inverse) } else { inverse }]
         }
+        Way::DeducibleInverse | Way::DeducibleGuess => {
+            let also = Some(guess).filter(|_| random.chance(30));
+            let terms = claimed_term(table, guess, way).into_iter().chain(also);
+            terms.flat_map(|term| giving(random, table, guess, term)).collect()
+        }
     }
+}
+
+/// The term that is deducible in this way, if it is listed.
+fn claimed_term(table: &Table, guess: u8, way: Way) -> Option<u8> {
+    match way.claimed() {
+        Claimed::Verifier(_) => None,
+        Claimed::Deducible(Deducible::Guess) => Some(guess),
+        Claimed::Deducible(Deducible::Inverse) => table.inverse(guess),
+    }
+}
+
+/// Messages that give the term away without the guess: the term itself, or such as hold it, each with
+/// what opens it.
+fn giving(random: &mut Random, table: &mut Table, guess: u8, term: u8) -> Vec<u8> {
+    let mut messages: Vec<u8> = Some(term).filter(|_| random.chance(35)).into_iter().collect();
+    for _ in 0..random.pick(&[0, 1, 1, 1, 2]) {
+        let mut message = term;
+        for _ in 0..random.between(1, 3) {
+            let (whole, opener) = wrapped(random, table, guess, message);
+            messages.extend(opener);
+            message = whole;
+        }
+        messages.push(message);
+    }
+    messages
+}
+
+/// A compound that holds the term, and the key that opens it, if it needs one. Neither the guess nor
+/// its inverse is the key.
+fn wrapped(random: &mut Random, table: &mut Table, guess: u8, term: u8) -> (u8, Option<u8>) {
+    let mut keys = table.of_kinds(&Kind::locking());
+    keys.retain(|&key| key != guess && table.inverse(guess) != Some(key));
+    if keys.is_empty() || random.chance(60) {
+        let beside = any_term(random, table);
+        let parts = random.pick(&[[term, beside], [beside, term]]);
+        return (table.compound(Kind::Pair, &parts), None);
+    }
+    let key = random.pick(&keys);
+    let kind = table.kind(key).and_then(Kind::locked_by).expect("what it locks");
+    let whole = table.compound(kind, &[term, key]);
+    (whole, Some(opposite(table, key)))
+}
+
+/// The key that opens what this one locks, and locks what this one opens: itself, or its inverse,
+/// which is listed if it was not.
+fn opposite(table: &mut Table, key: u8) -> u8 {
+    let inverse = table.as_atom(key).and_then(|(kind, name)| Some((kind.inverse()?, name)));
+    inverse.map_or(key, |(kind, name)| table.atom(kind, name))
 }
 
 /// A message that the guess opens, with the term somewhere in it.
@@ -145,8 +201,7 @@ fn key_opened_by(random: &mut Random, table: &mut Table, guess: u8) -> u8 {
     if random.chance(35) {
         return hashed(random, table, guess);
     }
-    let (kind, name) = table.as_atom(guess).expect("the guess is an atom");
-    table.atom(kind.inverse().unwrap_or(kind), name)
+    opposite(table, guess)
 }
 
 /// A hash of the guess, or of a pair of it and another term; now and then a hash of that.
@@ -162,12 +217,13 @@ fn hashed(random: &mut Random, table: &mut Table, guess: u8) -> u8 {
     hashed
 }
 
-/// The telling messages and some other terms, compounds rather than atoms, and seldom the guess.
-fn overheard(random: &mut Random, table: &Table, guess: u8, telling: &[u8]) -> Vec<u8> {
+/// The telling messages and some other terms, compounds rather than atoms, and seldom a guess that
+/// counts as known anyway.
+fn overheard(random: &mut Random, table: &Table, guess: u8, telling: &[u8], way: Way) -> Vec<u8> {
     let mut knowledge: Vec<u8> = table
         .numbers()
         .filter(|&number| match table.as_atom(number) {
-            _ if number == guess => random.chance(2),
+            _ if number == guess && way.knows_guess() => random.chance(2),
             _ if telling.contains(&number) => true,
             Some(_) => random.chance(15),
             None => random.chance(30),
@@ -186,21 +242,26 @@ fn forget(table: &Table, guess: u8, knowledge: &mut Vec<u8>) {
     }
 }
 
-/// A founded derivation: steps taken at random among the possible ones.
+/// A founded derivation: steps taken at random among the possible ones. Now and then the guess is a
+/// premise though it doesn't count as known in this way, and now and then there is no step where the
+/// way needs none.
 fn walk(
     random: &mut Random,
     table: &Table,
     knowledge: &[u8],
     guess: u8,
+    way: Way,
     most: usize,
 ) -> Vec<[u8; 4]> {
+    let known_guess = Some(guess).filter(|_| way.knows_guess() || random.chance(8));
     let mut walk = Walk {
         keys: TermSet::new(table, table.of_kinds(&Kind::locking())),
-        known: TermSet::new(table, knowledge.iter().copied().chain([guess])),
+        known: TermSet::new(table, knowledge.iter().copied().chain(known_guess)),
         guessed: TermSet::new(table, [guess]),
         steps: Vec::new(),
     };
-    for _ in 0..random.between(1, most) {
+    let no_step = way.may_be_entry() && random.chance(10);
+    for _ in 0..if no_step { 0 } else { random.between(1, most) } {
         let steps = possible(table, &walk.known);
         let weights: Vec<usize> = steps.iter().map(|&step| walk.weight(step)).collect();
         if weights.iter().sum::<usize>() == 0 {
@@ -264,28 +325,45 @@ fn claim(random: &mut Random, bodies: &Bodies, table: &Table, guess: u8, way: Wa
         .filter(|claim| claim[2] == way.letter())
         .take(CLAIMS)
         .find(|&&claim| is_accepted(&Bodies { claim, ..bodies.clone() }));
-    let step = random.below(bodies.derivation.len().max(1)) as u8;
-    let any = [guess, step, way.letter(), random.below(4) as u8];
+    let any = any_claim(random, bodies, guess, way);
     *accepted.or(claims.first()).filter(|_| random.chance(92)).unwrap_or(&any)
+}
+
+/// A claim whose step and companion are any, most often within their ranges.
+fn any_claim(random: &mut Random, bodies: &Bodies, guess: u8, way: Way) -> [u8; 4] {
+    let step = match random.weighted(&[80, 16, 4]) {
+        0 => random.below(bodies.derivation.len().max(1)) as u8,
+        1 => IN_KNOWLEDGE,
+        _ => IN_KNOWLEDGE - 1,
+    };
+    let companion = match way.companion() {
+        Companion::Zero if random.chance(75) => 0,
+        _ => random.below(4) as u8,
+    };
+    [guess, step, way.letter(), companion]
 }
 
 fn is_accepted(bodies: &Bodies) -> bool {
     reference::program(&bodies.submission()).is_ok()
 }
 
-/// The claims for which the companion and the conclusion fit together.
+/// The claims for which the companion and the conclusion fit together, or for which the knowledge has
+/// the term claimed.
 fn plausible(bodies: &Bodies, table: &Table, guess: u8) -> Vec<[u8; 4]> {
     let mut claims = Vec::new();
-    for step in 0..bodies.derivation.len() {
-        for way in Way::ALL {
+    for way in Way::ALL {
+        let claim = |step, companion| [guess, step, way.letter(), companion];
+        for step in 0..bodies.derivation.len() {
             let companions = companions(bodies, table, guess, step, way);
-            claims.extend(companions.iter().map(|&by| [guess, step as u8, way.letter(), by]));
+            claims.extend(companions.iter().map(|&companion| claim(step as u8, companion)));
         }
+        let entry = claimed_term(table, guess, way).filter(|term| bodies.knowledge.contains(term));
+        claims.extend(entry.map(|_| claim(IN_KNOWLEDGE, 0)));
     }
     claims
 }
 
-/// The companions that may go with a verifying step in this way.
+/// The companions that may go with this step in this way.
 fn companions(bodies: &Bodies, table: &Table, guess: u8, step: usize, way: Way) -> Vec<u8> {
     let Bodies { derivation, knowledge, .. } = bodies;
     let verifying = derivation[step];
@@ -300,6 +378,10 @@ fn companions(bodies: &Bodies, table: &Table, guess: u8, step: usize, way: Way) 
         Way::KnownBefore => known_before(verifier).then_some(0).into_iter().collect(),
         Way::Inverse => {
             table.inverse(verifier).filter(|&inverse| known(inverse)).into_iter().collect()
+        }
+        Way::DeducibleInverse | Way::DeducibleGuess => {
+            let is_claimed = claimed_term(table, guess, way) == Some(verifier);
+            is_claimed.then_some(0).into_iter().collect()
         }
     }
 }

@@ -3,9 +3,9 @@
 use std::collections::HashMap;
 use std::fmt;
 
-use super::{atom_text, name, WORDLESS};
+use super::{atom_text, name, ENTRY, WORDLESS};
 use crate::bodies::Bodies;
-use crate::tables::{padded, Body, Companion, Kind, Rule, Way};
+use crate::tables::{padded, Body, Companion, Kind, Rule, Way, IN_KNOWLEDGE};
 
 /// What is wrong with a text, and in which line.
 #[derive(PartialEq, Eq, Debug)]
@@ -177,6 +177,7 @@ impl Table {
         match *keyword {
             "way" => parse_way(value),
             "guess" => self.number(value),
+            "step" => parse_step(value),
             "companion" if companion(way) == Some(Companion::Term) => self.number(value),
             _ => parse_byte(value),
         }
@@ -260,6 +261,13 @@ fn parse_way(text: &str) -> Parsed<u8> {
         &[letter] if Way::from_letter(letter).is_some() => Ok(letter),
         _ => parse_byte(text),
     }
+}
+
+fn parse_step(text: &str) -> Parsed<u8> {
+    if text == ENTRY {
+        return Ok(IN_KNOWLEDGE);
+    }
+    parse_byte(text).map_err(|fault| format!("{fault}, nor `{ENTRY}`"))
 }
 
 fn parse_byte(text: &str) -> Parsed<u8> {

@@ -9,7 +9,8 @@
 //! - Knowledge: one term a line.
 //! - Derivation: `NUMBER: CONCLUSION = RULE(PREMISE, PREMISE)`, numbered from 0.
 //! - Claim: the lines `guess TERM`, `step NUMBER`, `way LETTER`, and `companion` with a step number
-//!   (way a) or a term (way c).
+//!   (way a) or a term (way c). `step knowledge` is for number 255, an entry of the knowledge in the
+//!   place of a step.
 //!
 //! The notation judges nothing, so that a text with a fault can be handed to the checker. What the
 //! words above can't say has plain numbers: `@9` is the term number 9, `LABEL = record 9 0 1` a
@@ -24,10 +25,13 @@ mod show;
 pub use assemble::{assemble, Fault};
 pub use show::show;
 
-use crate::tables::Kind;
+use crate::tables::{Body, Kind};
 
 /// The kind of an atom that is written without the word of its kind.
 const WORDLESS: Kind = Kind::Plain;
+
+/// What stands for the number of a step where an entry of the knowledge takes its place.
+const ENTRY: &str = Body::Knowledge.word();
 
 /// An atom as the canonical layout writes it.
 fn atom_text(kind: Kind, name: u16) -> String {

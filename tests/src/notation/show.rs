@@ -2,10 +2,10 @@
 
 use std::collections::HashSet;
 
-use super::atom_text;
+use super::{atom_text, ENTRY};
 use crate::bodies::Bodies;
 use crate::reference::Checked;
-use crate::tables::{used, Body, Companion, Kind, Rule, Way};
+use crate::tables::{used, Body, Companion, Kind, Rule, Way, IN_KNOWLEDGE};
 
 /// The canonical text of a submission that passes checks 1 and 2.
 pub fn show(submission: &[u8]) -> Checked<String> {
@@ -95,6 +95,11 @@ fn step_text(names: &[String], [rule, p, q, conclusion]: [u8; 4]) -> String {
 fn claim_lines(names: &[String], [guess, step, way, companion]: [u8; 4]) -> Vec<String> {
     let known_way = Way::from_letter(way);
     let way_text = known_way.map_or(way.to_string(), |way| char::from(way.letter()).to_string());
+    let may_be_entry = known_way.is_some_and(Way::may_be_entry);
+    let step_text = match step {
+        IN_KNOWLEDGE if may_be_entry => ENTRY.to_string(),
+        _ => step.to_string(),
+    };
     let companion_text = match known_way.map(Way::companion) {
         Some(Companion::Term) => Some(reference(names, companion)),
         Some(Companion::Step) => Some(companion.to_string()),
@@ -102,7 +107,7 @@ fn claim_lines(names: &[String], [guess, step, way, companion]: [u8; 4]) -> Vec<
     };
     let mut lines = vec![
         format!("guess {}", reference(names, guess)),
-        format!("step {step}"),
+        format!("step {step_text}"),
         format!("way {way_text}"),
     ];
     lines.extend(companion_text.map(|text| format!("companion {text}")));

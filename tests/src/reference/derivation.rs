@@ -4,7 +4,7 @@ use std::collections::HashSet;
 
 use super::refusal::{refuse, Checked};
 use super::rule::taken_apart;
-use super::submission::Submission;
+use super::submission::{Claim, Submission};
 use super::term::{Operands, Term};
 use crate::tables::{used, Reason, Rule};
 
@@ -32,10 +32,11 @@ impl Step {
     }
 }
 
-/// The steps, each founded on the knowledge, the guess and the earlier conclusions.
-pub fn founded(submission: &mut Submission, guess: &Term) -> Checked<Vec<Step>> {
-    let mut known: HashSet<Term> = submission.knowledge.iter().cloned().collect();
-    known.insert(guess.clone());
+/// The steps, each founded on the knowledge, the guess where it counts as known, and the earlier
+/// conclusions.
+pub fn founded(submission: &mut Submission, claim: &Claim) -> Checked<Vec<Step>> {
+    let mut known: HashSet<Term> =
+        submission.knowledge.iter().chain(claim.known_guess()).cloned().collect();
     let mut steps = Vec::new();
     for number in 0..submission.derivation.len() {
         let Some(step) = read_step(submission, submission.derivation[number]) else {

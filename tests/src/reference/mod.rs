@@ -16,7 +16,7 @@ mod rule;
 mod submission;
 mod term;
 
-use conditions::verified;
+use conditions::shown;
 use contents::BodyBytes;
 use deduction::Deduction;
 use derivation::founded;
@@ -118,11 +118,11 @@ fn put(page: &mut [u8], bytes: &[u8]) -> Checked<()> {
     Ok(())
 }
 
-/// The program of a submission that passes checks 1 to 10.
+/// The program of a submission that passes all checks but that of the page.
 fn accepted_program(submission: &[u8]) -> Checked<Program> {
     let mut submission = Submission::read(submission)?;
     let claim = submission.claim()?;
-    let steps = founded(&mut submission, &claim.guess)?;
-    verified(&mut submission, &claim, &steps)?;
+    let steps = founded(&mut submission, &claim)?;
+    shown(&mut submission, &claim, &steps)?;
     Ok(Program::of(&submission, &claim, &steps))
 }

@@ -4,10 +4,11 @@ use std::fmt;
 
 use super::derivation::Step;
 use super::refusal::{refuse, Checked};
-use super::submission::{records, Claim, Submission};
+use super::submission::{records, Claim, Named, Submission};
 use super::term::Term;
 use crate::tables::{
-    program_length, used, Companion, Reason, Rule, Test, INSTRUCTION_SIZE, MOST_INSTRUCTIONS,
+    program_length, used, Claimed, Reason, Rule, SecondWay, Test, INSTRUCTION_SIZE,
+    MOST_INSTRUCTIONS,
 };
 
 /// A rule over registers; one that it does not use is 0.
@@ -34,17 +35,12 @@ pub struct Program {
 impl Program {
     /// The program of an accepted claim.
     pub fn of(submission: &Submission, claim: &Claim, steps: &[Step]) -> Program {
-        let registers = Registers::holding(&submission.knowledge, &claim.guess, steps);
-        let second = match claim.way.companion() {
-            Companion::Step => registers.of_step(claim.companion),
-            Companion::Zero => registers.lowest(&steps[claim.step].conclusion),
-            Companion::Term => registers.lowest(&submission.terms[claim.companion]),
-        };
+        let registers = Registers::holding(&submission.knowledge, claim, steps);
         Program {
             first_written: registers.of_step(0),
             instructions: steps.iter().map(|step| registers.instruction(step)).collect(),
             test: claim.way.test(),
-            tested: [registers.of_step(claim.step), second].map(byte),
+            tested: tested(&registers, submission, claim, steps).map(byte),
         }
     }
 
@@ -61,6 +57,36 @@ impl Program {
     /// A program whose instructions write the registers from `first_written` on.
     pub fn read(bytes: &[u8], first_written: usize) -> Checked<Program> {
         read(bytes, first_written).map_or_else(|| refuse(Reason::Program, 0), Ok)
+    }
+}
+
+/// The registers that the test names: the verifying step's and that of the second way; or the
+/// guess's and that of what gives the term claimed.
+fn tested(
+    registers: &Registers,
+    submission: &Submission,
+    claim: &Claim,
+    steps: &[Step],
+) -> [usize; 2] {
+    match claim.way.claimed() {
+        Claimed::Verifier(second) => {
+            let verifying = claim.verifying();
+            let other = match second {
+                SecondWay::AnotherStep => registers.of_step(claim.companion),
+                SecondWay::KnownBefore => registers.lowest(&steps[verifying].conclusion),
+                SecondWay::Inverse => registers.lowest(&submission.terms[claim.companion]),
+            };
+            [registers.of_step(verifying), other]
+        }
+        Claimed::Deducible(deducible) => {
+            let giving = match claim.named {
+                Named::Step(step) => registers.of_step(step),
+                Named::Entry => {
+                    claim.entry(deducible, &submission.knowledge).expect("check 16 leaves an entry")
+                }
+            };
+            [registers.of_guess(), giving]
+        }
     }
 }
 
@@ -117,20 +143,25 @@ fn end_line(f: &mut fmt::Formatter, registers: &[u8]) -> fmt::Result {
 }
 
 /// The term that each register holds with the right guess: the knowledge, the guess, the
-/// conclusions.
+/// conclusions. That of the guess has none here where it serves no premise.
 struct Registers<'a> {
-    terms: Vec<&'a Term>,
+    terms: Vec<Option<&'a Term>>,
     first_written: usize,
 }
 
 impl<'a> Registers<'a> {
-    fn holding(knowledge: &'a [Term], guess: &'a Term, steps: &'a [Step]) -> Registers<'a> {
+    fn holding(knowledge: &'a [Term], claim: &'a Claim, steps: &'a [Step]) -> Registers<'a> {
         let terms = knowledge
             .iter()
-            .chain([guess])
-            .chain(steps.iter().map(|step| &step.conclusion))
+            .map(Some)
+            .chain([claim.known_guess()])
+            .chain(steps.iter().map(|step| Some(&step.conclusion)))
             .collect();
         Registers { terms, first_written: knowledge.len() + 1 }
+    }
+
+    fn of_guess(&self) -> usize {
+        self.first_written - 1
     }
 
     fn of_step(&self, step: usize) -> usize {
@@ -138,7 +169,7 @@ impl<'a> Registers<'a> {
     }
 
     fn lowest(&self, term: &Term) -> usize {
-        self.terms.iter().position(|&held| held == term).expect("the term is known")
+        self.terms.iter().position(|&held| held == Some(term)).expect("the term is known")
     }
 
     fn instruction(&self, step: &Step) -> Instruction {

@@ -5,7 +5,7 @@ use std::collections::HashSet;
 use super::contents;
 use super::refusal::{refuse, Checked};
 use super::term::{Operands, Store, Term};
-use crate::tables::{used, Companion, Kind, Reason, Way};
+use crate::tables::{used, Companion, Deducible, Kind, Reason, Way, IN_KNOWLEDGE};
 
 /// A submission that passes checks 1 to 4. Derivation and claim are kept as records.
 pub struct Submission {
@@ -19,15 +19,48 @@ pub struct Submission {
 /// A claim that passes check 5. The companion numbers what the way says.
 pub struct Claim {
     pub guess: Term,
-    pub step: usize,
+    pub named: Named,
     pub way: Way,
     pub companion: usize,
+}
+
+/// What the number of a claim's step names: a step, or an entry of the knowledge.
+#[derive(Clone, Copy)]
+pub enum Named {
+    Step(usize),
+    Entry,
 }
 
 impl Claim {
     /// The kind and name of the guess.
     pub fn atom(&self) -> (Kind, u16) {
         self.guess.atom().expect("check 5 leaves an atom")
+    }
+
+    /// The guess, in a way in which it counts as known.
+    pub fn known_guess(&self) -> Option<&Term> {
+        self.way.knows_guess().then_some(&self.guess)
+    }
+
+    /// The verifying step, in a way that has one.
+    pub fn verifying(&self) -> usize {
+        match self.named {
+            Named::Step(step) => step,
+            Named::Entry => panic!("check 5 leaves a step"),
+        }
+    }
+
+    /// Whether the term is the one that the claim says is deducible.
+    pub fn is_about(&self, deducible: Deducible, term: &Term) -> bool {
+        match deducible {
+            Deducible::Guess => *term == self.guess,
+            Deducible::Inverse => term.is_inverse_of(&self.guess),
+        }
+    }
+
+    /// The position in the knowledge of that term.
+    pub fn entry(&self, deducible: Deducible, knowledge: &[Term]) -> Option<usize> {
+        knowledge.iter().position(|entry| self.is_about(deducible, entry))
     }
 }
 
@@ -52,20 +85,27 @@ impl Submission {
 
     fn read_claim(&self) -> Option<Claim> {
         let [guess, step, way, companion] = self.claim;
-        let guess = self.term(guess).filter(|term| term.atom().is_some())?.clone();
         let way = Way::from_letter(way)?;
+        let may_be_guess =
+            |term: &&Term| term.kind().is_some_and(|kind| way.guesses().contains(&kind));
+        let guess = self.term(guess).filter(may_be_guess)?.clone();
+        let named = self.named(step, way)?;
         let companions = match way.companion() {
             Companion::Step => self.derivation.len(),
             Companion::Zero => 1,
             Companion::Term => self.terms.len(),
         };
-        let (step, companion) = (usize::from(step), usize::from(companion));
-        (step < self.derivation.len() && companion < companions).then_some(Claim {
-            guess,
-            step,
-            way,
-            companion,
-        })
+        let companion = usize::from(companion);
+        (companion < companions).then_some(Claim { guess, named, way, companion })
+    }
+
+    /// What a step's number names in this way.
+    fn named(&self, step: u8, way: Way) -> Option<Named> {
+        if step == IN_KNOWLEDGE && way.may_be_entry() {
+            return Some(Named::Entry);
+        }
+        let step = usize::from(step);
+        (step < self.derivation.len()).then_some(Named::Step(step))
     }
 }
 

@@ -11,7 +11,8 @@ table! {
     }
     Check     { word: "check",     refusals: &[
         Reason::Contents, Reason::Count, Reason::Term, Reason::Knowledge, Reason::Claim, Reason::Step,
-        Reason::Unfounded, Reason::Reachable, Reason::NoSecondWay, Reason::Undone, Reason::Page,
+        Reason::Unfounded, Reason::Reachable, Reason::NoSecondWay, Reason::Undone, Reason::NotShown,
+        Reason::Page,
     ] }
     Deducible { word: "deducible", refusals: &[
         Reason::Contents, Reason::Count, Reason::Term, Reason::Knowledge, Reason::NoSuchTerm,

@@ -48,7 +48,7 @@ pub use kind::{Kind, NO_INVERSE};
 pub use program::{program_length, Test, INSTRUCTION_SIZE, LONGEST_PROGRAM, MOST_INSTRUCTIONS};
 pub use reason::Reason;
 pub use rule::{Opener, Rule, Taking};
-pub use way::{Companion, Way};
+pub use way::{Claimed, Companion, Deducible, SecondWay, Way, IN_KNOWLEDGE};
 
 /// The first `count` of two operands, where the unused ones are 0.
 pub fn used(count: usize, operands: &[u8; 2]) -> Option<&[u8]> {

@@ -21,4 +21,5 @@ table! {
     Program     { number: 13, word: "program" }
     Ragged      { number: 14, word: "ragged" }
     Stale       { number: 15, word: "stale" }
+    NotShown    { number: 16, word: "not shown" }
 }
