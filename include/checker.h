@@ -35,7 +35,10 @@ extern "C" {
 #endif
 
 /* Checks a submission. An acceptance is the count N of its steps; the first 3N+4 bytes of the page are then its register program, and
-   the others are as before. A refusal is 1 to 11, and leaves the page as it was. A page of 388 bytes is never too short. */
+   the others are as before. In ways a, b and c it means that the five conditions hold: the knowledge doesn't give the guess, but a guess
+   can be confirmed. In way k it means that the guess is deducible from the knowledge, and in way j that the inverse of the guess is. In
+   these two N may be 0. A refusal is 1 to 11 or 16, and leaves the page as it was; that a submission is refused doesn't mean that its
+   secret is safe. A page of 388 bytes is never too short. */
 uint32_t checker_check(const uint8_t *sub, size_t sub_len, uint8_t *page, size_t page_len);
 
 /* 1 where some finite list of Dolev-Yao steps reaches the term of this number from the submission's knowledge, and 0 where none does.

@@ -48,9 +48,9 @@ pub const fn program_length(steps: usize) -> usize {
 /// Checks a submission.
 ///
 /// An acceptance gives the register program, for [`run`]: the first 3N+4 bytes of the page, of
-/// which the first is the count N of steps. The other bytes of the page are as before. A refusal,
-/// 1 to 11, leaves the whole page as it was. A page of [`LONGEST_PROGRAM`] bytes is never too
-/// short.
+/// which the first is the count N of steps. The other bytes of the page are as before. What an
+/// acceptance means in each of the ways is said in `include/checker.h`. A refusal, 1 to 11 or 16,
+/// leaves the whole page as it was. A page of [`LONGEST_PROGRAM`] bytes is never too short.
 pub fn check<'page>(submission: &[u8], page: &'page mut [u8]) -> Result<&'page [u8], Refusal> {
     let steps = decoded(raw::check(submission, page))?;
     Ok(&page[..program_length(usize::from(steps))])

@@ -30,7 +30,7 @@ extern "C" {
     fn checker_inverses(sub: *const u8, sub_len: usize, page: *mut u8, page_len: usize) -> u32;
 }
 
-/// Checks a submission: the count N of its steps, or a refusal, 1 to 11.
+/// Checks a submission: the count N of its steps, or a refusal, 1 to 11 or 16.
 pub fn check(submission: &[u8], page: &mut [u8]) -> u32 {
     // SAFETY: each buffer is passed with its own length, and only the page, which nothing else
     // refers to, is written.
