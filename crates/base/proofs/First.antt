@@ -99,3 +99,13 @@ first-found p n r l e = go (first p n) refl
     go (some k) f =
         let u = first-some p n k f in
         (k, f, ⊎-elim (λ b. absurd (true≢false (sym e ∙ u .2 r b))) (λ b. b) (lt-or-ge r k), u .1)
+
+-- tests that agree below n hold first at the same place
+pub first-equal : (p q : ℕ → Bool) (n : ℕ) → ((k : ℕ) → k < n → p k ≡ q k) → first p n ≡ first q n
+first-equal p q n f = go (first q n) refl
+  where
+    go : (o : Option ℕ) → first q n ≡ o → first p n ≡ first q n
+    go none e = passed-all {i = n} (record { within = omega arith; failed = λ k l. f k l ∙ first-none q n e k l }) (omega arith) ∙ sym e
+    go (some i) e =
+        let (l, h, b) = first-some q n i e in
+        passed-hit {i = i} (record { within = omega arith; failed = λ k m. f k (omega arith) ∙ b k m }) l (f i l ∙ h) ∙ sym e

@@ -17,7 +17,7 @@ use Rattle.submission.specs.declared.Target.the-variants.{Guess, Inverse}
 use Rattle.submission.specs.{Record.entries, Record.entryAt, Record.conclusionAt, Record.verifying, Check.knowledgeStep, Check.Target, Check.verifier, Check.derived, Check.claimsIn, Check.claims, Check.row, Computed.areInverse, Computed.isTarget, Code.Limited, Code.wayIs, Code.targetIs, Code.claimsIs, Code.rowIs, Code.IsClaim}
 use Rattle.derivation.specs.declared.Step.{Step}
 use Rattle.derivation.specs.Code.{IsStep}
-use Rattle.conditions.specs.Computed.{entryGiven, isGiven, checks8to10, checkClaim}
+use Rattle.conditions.specs.Computed.{entryFound, isGiven, checks8to10, checkClaim}
 
 -- ---- whether term n is the one claimed
 module _ {s : List ℕ} {c : Claim} (h : IsClaim s c) (n : ℕ) {t : TargetRead} where
@@ -32,15 +32,15 @@ abbrev pub isEntry : List ℕ → Target → ℕ → Bool
 isEntry s t i = isTarget s t (entryAt s i)
 
 module _ (s : List ℕ) (t : TargetRead) {i n : ℕ} (p : Passed (isEntry s (targetIs t)) (entries s) i) (e : n ≡ entries s) where
-  pub entry-found : {b : Bool} {x : ℕ} → i < n → x ≡ entryAt s i → b ≡ isTarget s (targetIs t) x → b ≡ true → i ≡ orNone (entryGiven s (targetIs t))
-  unfolding entryGiven
+  pub entry-found : {b : Bool} {x : ℕ} → i < n → x ≡ entryAt s i → b ≡ isTarget s (targetIs t) x → b ≡ true → i ≡ orNone (entryFound s (targetIs t))
+  unfolding entryFound
   entry-found l f g q = rw (passed-hit p (omega arith) (sym (g ∙ ap (isTarget s (targetIs t)) f) ∙ q))
 
   pub entry-passed : {b : Bool} {x : ℕ} → i < n → x ≡ entryAt s i → b ≡ isTarget s (targetIs t) x → b ≡ false → Passed (isEntry s (targetIs t)) (entries s) (i + 1)
   entry-passed l f g q = passed-more p (omega arith) (sym (g ∙ ap (isTarget s (targetIs t)) f) ∙ q)
 
-  pub no-entry : n ≤ i → 255 ≡ orNone (entryGiven s (targetIs t))
-  unfolding entryGiven
+  pub no-entry : n ≤ i → 255 ≡ orNone (entryFound s (targetIs t))
+  unfolding entryFound
   no-entry l = rw (passed-all p (omega arith))
 
 -- ---- what gives it
@@ -53,8 +53,8 @@ found-some p n l = go (first p n) refl
     go (some i) e = let b = first-some p n i e .0 in rw (ne-eqb i 255 (λ q. omega arith))
 
 module _ {s : List ℕ} {c : Claim} (h : IsClaim s c) (t : TargetRead) where
-  pub entry-decides : {r : ℕ} → Limited s → c .step ≡ knowledgeStep → r ≡ orNone (entryGiven s (targetIs t)) → not (eqb r 255) ≡ isGiven s (targetIs t)
-  unfolding isGiven entryGiven
+  pub entry-decides : {r : ℕ} → Limited s → c .step ≡ knowledgeStep → r ≡ orNone (entryFound s (targetIs t)) → not (eqb r 255) ≡ isGiven s (targetIs t)
+  unfolding isGiven entryFound
   entry-decides l e f =
       let x : verifying s ≡ knowledgeStep = sym (h .step) ∙ e in
       rw (f, eq-eqb _ _ x, found-some (isEntry s (targetIs t)) (entries s) (omega (arith, l .entries)))

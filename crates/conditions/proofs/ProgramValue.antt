@@ -26,19 +26,20 @@ use Rattle.derivation.specs.{Step.written, Computed.isKnown}
 use Rattle.submission.specs.Record.{secondAt}
 use Rattle.derivation.specs.Computed.{unfounded}
 use Rattle.derivation.specs.Code.{IsStep, Lowest}
-use Rattle.derivation.proofs.theory.StepMeaning.{steps-pass}
+use Rattle.derivation.proofs.theory.StepMeaning.{fits-iff, steps-pass}
+use Rattle.derivation.specs.Step.{StepFits}
 use Rattle.derivation.proofs.theory.KnownPremises.{first-known, second-known, known-held, known-stays}
 use Rattle.program.specs.declared.Instruction.{Instruction as InstructionRead}
 use Rattle.program.specs.declared.Test.{Test as TestRead}
 use Rattle.program.specs.declared.Program.{Program as ProgramRead}
 use Rattle.program.specs.Code.{instructionIn, testIn, programIn}
 use Rattle.program.proofs.theory.Value.{Holds, holds-more, holds-all, held-count}
-use Rattle.conditions.specs.Calls.{lowest, named, instruction, program, testFor}
+use Rattle.conditions.specs.Calls.{lowest, entryGiven, named, instruction, program, testFor}
 use Rattle.conditions.specs.Code.{Acceptable, Held}
-use Rattle.conditions.specs.Computed.{entryGiven, isGiven}
+use Rattle.conditions.specs.Computed.{entryFound, isGiven}
 use Rattle.conditions.proofs.PassedFacts.{second-is, founded-claimed, acceptable-founded, acceptable-limited, second-way, target-given}
-use Rattle.submission.proofs.theory.ListedTerms.{verifying-below, given-range}
-use Rattle.conditions.proofs.theory.ProgramRun.{program-steps}
+use Rattle.submission.proofs.theory.ListedTerms.{Claimed, verifying-below, given-range}
+use Rattle.conditions.proofs.theory.{ConditionsMeant.same-entry, ProgramRun.program-steps}
 
 -- ---- "A premise is taken from its lowest register": what the lowest registers say of a known term
 module _ {s : List ℕ} {g : List ℕ} (h : Acceptable s) (w : Lowest s (written s (steps s)) g) where
@@ -76,9 +77,6 @@ module _ {s : List ℕ} (h : Acceptable s) where
   known-later : (t : ℕ) → isKnown s 0 t ≡ true → isKnown s (steps s) t ≡ true
   known-later t k = known-stays s 0 (steps s) t (omega arith) k
 
-  target-held : (t : Target) → claims s ≡ derived t → Held s (given-register t)
-  target-held t v = (given-range (founded-claimed (acceptable-founded h)) t v, target-given h t v)
-
   tested-held : (w : Way) → wayOf (wayAt s) ≡ some w → Held s (row w .tested) × Held s (row w .against)
   tested-held another-step e =
       let z = founded-claimed (acceptable-founded h) in
@@ -88,8 +86,8 @@ module _ {s : List ℕ} (h : Acceptable s) where
   tested-held inverse-key e =
       let k = says-and _ _ (says-true (areInverse s (conclusionAt s (verifying s)) (companion s))) (says-true (isKnown s (steps s) (companion s))) .0 (rw e at (second-way h (ap claimsIn e))) in
       (verifying-below (founded-claimed (acceptable-founded h)) (ap claimsIn e), k .1)
-  tested-held guess-derived e = (tt, target-held the-guess (ap claimsIn e))
-  tested-held inverse-derived e = (tt, target-held its-inverse (ap claimsIn e))
+  tested-held guess-derived e = (tt, ap claimsIn e)
+  tested-held inverse-derived e = (tt, ap claimsIn e)
 
   -- the row x of the claim's way, read by the code
   module _ {c : Claim} (k : IsClaim s c) (x : RowRead) (e : rowIs x ≡ row (wayIs (c .way))) where
@@ -136,12 +134,18 @@ module _ {s : List ℕ} {g : List ℕ} (h : Acceptable s) (w : Lowest s (written
 
 -- ---- the register of what gives the term claimed
 module _ {s : List ℕ} (h : Acceptable s) {c : Claim} (k : IsClaim s c) (t : TargetRead) (held : Held s (given-register (targetIs t))) where
-  pub entry-named : {r : ℕ} → c .step ≡ knowledgeStep → r ≡ orNone (entryGiven s (targetIs t)) → r ≡ named s (given-register (targetIs t))
-  unfolding isGiven
+  claim : Claimed s
+  claim = founded-claimed (acceptable-founded h)
+
+  all-fit : (i : ℕ) → i < steps s → StepFits s i
+  all-fit i l = fits-iff (claim .read) i .0 (steps-pass s .0 (acceptable-founded h .founded) i l .0)
+
+  pub entry-named : {r : ℕ} → c .step ≡ knowledgeStep → r ≡ orNone (entryFound s (targetIs t)) → r ≡ named s (given-register (targetIs t))
+  unfolding isGiven entryGiven
   entry-named e f =
       let x : verifying s ≡ knowledgeStep = sym (k .step) ∙ e in
-      let g : isSome (entryGiven s (targetIs t)) ≡ true = rw (eq-eqb _ _ x) at (held .1) in
-      rw (eq-eqb _ _ x) (f ∙ go (entryGiven s (targetIs t)) g)
+      let g : isSome (entryFound s (targetIs t)) ≡ true = rw (eq-eqb _ _ x) at (target-given h (targetIs t) held) in
+      rw (eq-eqb _ _ x) (f ∙ go (entryFound s (targetIs t)) g ∙ ap (λ o. elim o [ none ↦ 0 | some r ↦ r ]) (same-entry claim all-fit (targetIs t) held))
     where
       go : (o : Option ℕ) → isSome o ≡ true → orNone o ≡ elim o [ none ↦ 0 | some r ↦ r ]
       go none e = absurd (false≢true e)
@@ -151,7 +155,7 @@ module _ {s : List ℕ} (h : Acceptable s) {c : Claim} (k : IsClaim s c) (t : Ta
   step-named d f = rw (← (k .step), ne-eqb _ _ d) f
 
   pub step-few : (c .step ≡ knowledgeStep → ⊥) → c .step < 128
-  step-few d = ⊎-elim (λ l. rw (k .step) (one-of-steps h _ l)) (λ e. absurd (d (k .step ∙ e))) (held .0)
+  step-few d = ⊎-elim (λ l. rw (k .step) (one-of-steps h _ l)) (λ e. absurd (d (k .step ∙ e))) (given-range claim (targetIs t) held)
 
 pub ruleset given-registers = (acceptable-limited, entry-named, step-named, step-few)
 

@@ -1,10 +1,10 @@
 -- What the call `check` promises: its verdict, and document 01's register program on the page.
-use Rattle.base.specs.{Words._≡_, Words.cond, Words.List, Words.Option, Words.none, Words.some, Words.ℕ, Words.eqb, Words.length, Words.first, Words.listed, Answer.Answer, Answer.done, Answer.refused, Answer.Writes}
-use Rattle.term.specs.Number.{hasOne}
-use Rattle.submission.specs.{Record.entries, Record.steps, Record.ruleAt, Record.pAt, Record.qAt, Record.conclusionAt, Record.verifying, Record.wayAt, Record.companion, Check.Way, Check.wayOf, Check.Operand, Check.verifying-result, Check.companion-result, Check.lowest-conclusion, Check.lowest-companion, Check.guess-register, Check.given-register, Check.knowledgeStep, Check.row}
+use Rattle.base.specs.{Words._≡_, Words.true, Words.false, Words.ite, Words.cond, Words.List, Words.Option, Words.none, Words.some, Words.ℕ, Words.eqb, Words.length, Words.first, Words.listed, Answer.Answer, Answer.done, Answer.refused, Answer.Writes}
+use Rattle.term.specs.{Number.hasOne, Computed.term?}
+use Rattle.submission.specs.{Record.entries, Record.steps, Record.entryAt, Record.term, Record.ruleAt, Record.pAt, Record.qAt, Record.conclusionAt, Record.verifying, Record.wayAt, Record.companion, Check.Way, Check.wayOf, Check.Operand, Check.verifying-result, Check.companion-result, Check.lowest-conclusion, Check.lowest-companion, Check.guess-register, Check.given-register, Check.Target, Check.knowledgeStep, Check.row}
 use Rattle.derivation.specs.Step.{holdsTerm, written}
 use Rattle.program.specs.Program.{rowOf, Instruction, Program, bytesOf}
-use Rattle.conditions.specs.{declared.Verdict.Verdict, declared.Verdict.the-variants.Accepted, declared.Verdict.the-variants.Refused, Computed.entryGiven, Computed.checkAnswer}
+use Rattle.conditions.specs.{declared.Verdict.Verdict, declared.Verdict.the-variants.Accepted, declared.Verdict.the-variants.Refused, Condition.target, Computed.checkAnswer}
 
 -- the lowest register that holds the term t; A5: in ways k and j the guess's "register serves no premise"
 unfoldable pub lowest : List ℕ → ℕ → ℕ
@@ -14,6 +14,10 @@ lowest s t = elim (first (holdsTerm s t) (written s (steps s))) [ none ↦ 0 | s
 unfoldable pub instruction : List ℕ → ℕ → Instruction
 instruction s i = record { rule = ruleAt s i; left = lowest s (pAt s i); right = cond (hasOne (ruleAt s i)) 0 (lowest s (qAt s i)) }
 
+-- A5: the entry of the knowledge that is the term claimed
+unfoldable pub entryGiven : List ℕ → Target → ℕ
+entryGiven s t = elim (first (λ r. ite (term? (target s t) (term s (entryAt s r))) true false) (entries s)) [ none ↦ 0 | some r ↦ r ]
+
 -- the register that a test of the claim names; A5: "the guess register first, then the step's (with 255, the entry's)"
 abbrev pub named : List ℕ → Operand → ℕ
 named s verifying-result = written s (verifying s)
@@ -21,7 +25,7 @@ named s companion-result = written s (companion s)
 named s lowest-conclusion = lowest s (conclusionAt s (verifying s))
 named s lowest-companion = lowest s (companion s)
 named s guess-register = entries s
-named s (given-register t) = cond (eqb (verifying s) knowledgeStep) (elim (entryGiven s t) [ none ↦ 0 | some r ↦ r ]) (written s (verifying s))
+named s (given-register t) = cond (eqb (verifying s) knowledgeStep) (entryGiven s t) (written s (verifying s))
 
 -- the test of the claim's way; where there is none, 0 is no test's letter
 abbrev pub testFor : List ℕ → Option Way → Instruction

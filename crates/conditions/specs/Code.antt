@@ -3,10 +3,10 @@ use mathlib.Core.{Path._≡_, Logic._⊎_, Logic._↔_, Bool.Bool, Bool.true, Bo
 use Prim.Native.Nat.{ℕ, _<_}
 use lib.Dec.{eqb}
 use Rattle.base.specs.{Computed.passes, Words.Bytes}
-use Rattle.submission.specs.{Record.steps, Record.ruleAt, Record.conclusionAt, Record.verifying, Record.companion, Check.Operand, Check.verifying-result, Check.companion-result, Check.lowest-conclusion, Check.lowest-companion, Check.guess-register, Check.given-register, Check.knowledgeStep, Computed.checks1to5}
+use Rattle.submission.specs.{Record.steps, Record.ruleAt, Record.conclusionAt, Record.verifying, Record.companion, Check.Operand, Check.verifying-result, Check.companion-result, Check.lowest-conclusion, Check.lowest-companion, Check.guess-register, Check.given-register, Check.derived, Check.claims, Computed.checks1to5}
 use Rattle.term.specs.Term.{Term}
 use Rattle.derivation.specs.{Computed.isKnown, Computed.checkSteps, Step.rule, Step.Premise}
-use Rattle.conditions.specs.{Computed.samePremises, Computed.isGiven, Computed.checksBeforePage}
+use Rattle.conditions.specs.{Computed.samePremises, Computed.checksBeforePage}
 
 -- bytes that passed checks 1 to 7
 pub record Founded (s : List ℕ) : Type 0 where
@@ -24,14 +24,14 @@ abbrev pub otherWay : List ℕ → ℕ → ℕ → Bool
 otherWay s i j =
     eqb (conclusionAt s j) (conclusionAt s i) && (not (eqb (ruleAt s i) (ruleAt s j)) || not (samePremises s i j))
 
--- the register that a test names can be found: its step is one of the derivation, or its term is known after the last step, or given
+-- the register that a test names can be found: its step is one of the derivation, or its term is known after the last step, or claimed
 abbrev pub Held : List ℕ → Operand → Type 0
 Held s verifying-result = verifying s < steps s
 Held s companion-result = companion s < steps s
 Held s lowest-conclusion = isKnown s (steps s) (conclusionAt s (verifying s)) ≡ true
 Held s lowest-companion = isKnown s (steps s) (companion s) ≡ true
 Held s guess-register = Unit {0}
-Held s (given-register t) = ((verifying s < steps s) ⊎ (verifying s ≡ knowledgeStep)) × (isGiven s t ≡ true)
+Held s (given-register t) = claims s ≡ derived t
 
 -- "with another rule or another premise set"
 abbrev pub Differs : List ℕ → ℕ → ℕ → Type 0

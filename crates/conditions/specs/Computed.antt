@@ -61,12 +61,12 @@ checks8to10 s =
     (andThen (failsIf (not (hasSecondWay s (wayOf (wayAt s)))) 9 (verifying s)) (failsAt 10 (first (undone s) (steps s))))
 
 -- A5: the entry of the knowledge that is the term claimed
-unfoldable pub entryGiven : List ℕ → Target → Option ℕ
-entryGiven s t = first (λ r. isTarget s t (entryAt s r)) (entries s)
+unfoldable pub entryFound : List ℕ → Target → Option ℕ
+entryFound s t = first (λ r. isTarget s t (entryAt s r)) (entries s)
 
 -- the named step, or with 255 an entry of the knowledge, gives the term claimed
 unfoldable pub isGiven : List ℕ → Target → Bool
-isGiven s t = cond (eqb (verifying s) knowledgeStep) (isSome (entryGiven s t)) (isTarget s t (conclusionAt s (verifying s)))
+isGiven s t = cond (eqb (verifying s) knowledgeStep) (isSome (entryFound s t)) (isTarget s t (conclusionAt s (verifying s)))
 
 -- what is claimed: checks 8 to 10, or 16 not shown: "a step or a 255 that doesn't give the term claimed"
 abbrev pub checkClaim : List ℕ → Claims → Check

@@ -8,7 +8,7 @@ ghost use Rattle.submission.specs.Code.{Limited, targetIs, IsClaim};
 ghost use Rattle.submission.specs.Computed.{isTarget};
 ghost use Rattle.base.specs.Computed.{orNone, failsIf};
 ghost use Rattle.base.specs.Code.{checkOf};
-ghost use Rattle.conditions.specs.Computed.{entryGiven, isGiven};
+ghost use Rattle.conditions.specs.Computed.{entryFound, isGiven};
 
 // Whether term n is the one claimed.
 fn is_target(s: &[u8], claim: Claim, target: Target, n: u8) -> bool
@@ -24,7 +24,7 @@ fn is_target(s: &[u8], claim: Claim, target: Target, n: u8) -> bool
 // The entry of the knowledge that is the term claimed, or 255.
 pub fn entry_given(s: &[u8], claim: Claim, target: Target) -> u8
     requires { ⌜ IsClaim (now s) claim ⌝ }
-    ensures { λ r. ⌜ r ≡ orNone (entryGiven (now (s .entry)) (targetIs target)) ⌝ }
+    ensures { λ r. ⌜ r ≡ orNone (entryFound (now (s .entry)) (targetIs target)) ⌝ }
 {
     let n = submission::entries(s);
     let mut i: u8 = 0;

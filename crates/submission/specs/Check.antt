@@ -4,8 +4,8 @@ use Rattle.term.specs.{Term.Kind, Term.asymmetric, Term.Second, Term.absent, Te
 use Rattle.submission.specs.Record.{count, start, least, most, terms, entries, steps, kindAt, xAt, yAt, entryAt, guess, verifying, wayAt, companion}
 use Rattle.submission.specs.Body.{contents}
 
--- way a: another step concludes the same term; way b: it is known at the start; way c: its inverse key is known; A5, way k: the guess is
--- derived; way j: its inverse is
+-- way a: another step concludes the same term; way b: it is known at the start; way c: its inverse key is known. A5: "Add way k: the named step
+-- concludes the guess. Add way j: the guess is a key and the named step concludes its inverse."
 pub data Way : Type 0 where
   another-step at-start inverse-key guess-derived inverse-derived : Way
 

@@ -27,8 +27,8 @@ use Rattle.program.specs.Program.{relationOf, programLength, instructionBytes, 
 use Rattle.submission.specs.Computed.{isKnownPart, isStale}
 use Rattle.machine.specs.Run.{initial, executed, registers, signals, signal}
 use Rattle.text.specs.Text.{digits, stepLine, testLine, stepLines, answerText}
-use Rattle.conditions.specs.Computed.{reachable, samePremises, undoesStep, undone, entryGiven, isGiven, checksBeforePage, checkAnswer}
-use Rattle.conditions.specs.Calls.{lowest, instruction, program}
+use Rattle.conditions.specs.Computed.{reachable, samePremises, undoesStep, undone, entryFound, isGiven, checksBeforePage, checkAnswer}
+use Rattle.conditions.specs.Calls.{lowest, entryGiven, instruction, program}
 use Rattle.checker.specs.Calls.{verdictText}
 use Rattle.submission.specs.Computed.{badContents, badTerm, badKnowledge, goodClaim, checks1to4, checks1to5}
 use Rattle.program.specs.Computed.{badInstruction, badTest, badProgram}
@@ -440,7 +440,7 @@ want e = e .wanted
 
 -- the one computed fact
 pub table-right : map got table ≡ map want table
-unfolding first firstFrom any grow decoded op cancelled parted paired match? isKey? headOf wordOf hasOne ruleTakesApart startOf badContents shapeOf recordAt term areInverse wayOf badTerm badKnowledge goodClaim checks1to4 checks1to5 registerTerm secondAt badStep unfounded registerCounts checkSteps builtWithin round rounds entryMarks isDeducible relationOf instructionBytes bytesOf instructionAt badInstruction badTest badProgram guessed initial executed registers signals signal isPart isKnownPart isStale isStaleName runAnswer reachable samePremises undoesStep undone entryGiven isGiven checksBeforePage checkAnswer lowest instruction program digits stepLine testLine stepLines answerText verdictText Dec·and ℕ-discrete
+unfolding first firstFrom any grow decoded op cancelled parted paired match? isKey? headOf wordOf hasOne ruleTakesApart startOf badContents shapeOf recordAt term areInverse wayOf badTerm badKnowledge goodClaim checks1to4 checks1to5 registerTerm secondAt badStep unfounded registerCounts checkSteps builtWithin round rounds entryMarks isDeducible relationOf instructionBytes bytesOf instructionAt badInstruction badTest badProgram guessed initial executed registers signals signal isPart isKnownPart isStale isStaleName runAnswer reachable samePremises undoesStep undone entryFound isGiven checksBeforePage checkAnswer lowest entryGiven instruction program digits stepLine testLine stepLines answerText verdictText Dec·and ℕ-discrete
 table-right = refl
 
 -- what it says of each example

@@ -1,7 +1,7 @@
 -- Each check of the crate, over term numbers, says what its condition says of terms. The numbers of a submission that was read
 -- stand for its terms, one for one.
 use mathlib.Core.Path.{_≡_, refl, sym, ap, subst}
-use mathlib.Core.Logic.{_↔_, _⊎_, inl, inr, ⊎-elim, Iff·trans}
+use mathlib.Core.Logic.{_↔_, _⊎_, inl, inr, ⊎-elim, Iff·trans, ite}
 use mathlib.Core.Bool.{Bool, true, false, _&&_, _||_, not, cond, false≢true}
 use mathlib.Core.List.{List}
 use mathlib.Core.Option.{some}
@@ -9,8 +9,11 @@ use Prim.Native.Nat.{ℕ, _<_, _≤_}
 use native.Mathlib.Omega.{arith}
 use lib.Dec.{eqb}
 use borrow.Author.Tests.{eqb-true, eqb-false}
-use Rattle.base.specs.{Computed.any, Code.isSome}
-use Rattle.base.proofs.Says.{Says, says-eqb, says-and, says-or, says-any, says-not, denies, and-false}
+use Rattle.base.specs.{Words.first, Computed.any, Code.isSome}
+use Rattle.base.proofs.First.{first-equal}
+use Rattle.term.specs.Computed.{term?}
+use Rattle.term.proofs.Reduce.{says-test}
+use Rattle.base.proofs.Says.{Says, same-test, says-eqb, says-and, says-or, says-any, says-not, denies, and-false}
 use Rattle.term.specs.Term.{Term, isKey}
 use Rattle.term.specs.Number.{headOf}
 use Rattle.term.specs.Step.{Deducible, Undoes}
@@ -23,7 +26,7 @@ use Rattle.derivation.specs.Computed.{isKnown, unfounded}
 use Rattle.derivation.proofs.theory.StepMeaning.{second-listed, says-known-term, founded-terms}
 use Rattle.deduction.specs.Computed.{entryMarks, isDeducible}
 use Rattle.deduction.proofs.theory.Exactness.{deducible-iff}
-use Rattle.conditions.specs.Computed.{reachable, isPremise, samePremises, hasSecondWay, undoesStep, companionUndoes, undone, entryGiven, isGiven}
+use Rattle.conditions.specs.Computed.{reachable, isPremise, samePremises, hasSecondWay, undoesStep, companionUndoes, undone, entryFound, isGiven}
 use Rattle.derivation.specs.Step.{rule, firstPremise, secondPremise, concluded, guessCounts, Known, StepFits, Premise}
 use Rattle.conditions.specs.Condition.{Given, target, SecondWay, Undone}
 use Rattle.conditions.specs.Code.{Differs}
@@ -61,9 +64,15 @@ module _ {s : List ℕ} (c : Claimed s) (sound : (i : ℕ) → i < steps s → S
       let k : isKey (term s (guess s)) = guess-key c g in
       Iff·trans (read .inverse-iff (guess s) n (c .guess-below) l) (λ (_, e). sym e, λ e. (k, sym e))
 
+  -- the entry that is it, by numbers and by terms
+  pub same-entry : (t : Target) → claims s ≡ derived t → entryFound s t ≡ first (λ r. ite (term? (target s t) (term s (entryAt s r))) true false) (entries s)
+  unfolding entryFound
+  same-entry t k =
+      first-equal _ _ (entries s) (λ r l. same-test _ _ (says-target t (claimed-fits c (derived t) k) (entryAt s r) (read .entry-below r l)) (says-test (term? (target s t) (term s (entryAt s r)))))
+
   -- the named step or an entry gives it: row 16 says that it doesn't
   pub says-given : (t : Target) → claims s ≡ derived t → Says (isGiven s t) (Given s (target s t))
-  unfolding isGiven entryGiven any
+  unfolding isGiven entryFound any
   says-given t k = go (eqb (verifying s) knowledgeStep) refl
     where
       fits : GuessFits s (derived t)
@@ -73,7 +82,7 @@ module _ {s : List ℕ} (c : Claimed s) (sound : (i : ℕ) → i < steps s → S
       no-step l e = omega (arith, read .steps-most)
 
       go : (b : Bool) → eqb (verifying s) knowledgeStep ≡ b →
-          Says (cond b (isSome (entryGiven s t)) (isTarget s t (conclusionAt s (verifying s)))) (Given s (target s t))
+          Says (cond b (isSome (entryFound s t)) (isTarget s t (conclusionAt s (verifying s)))) (Given s (target s t))
       go true e =
           let x : verifying s ≡ knowledgeStep = eqb-true _ _ e in
           Iff·trans (says-any {P = λ r. target s t ≡ term s (entryAt s r)} (λ r. isTarget s t (entryAt s r)) (entries s) (λ r l. says-target t fits (entryAt s r) (read .entry-below r l)))

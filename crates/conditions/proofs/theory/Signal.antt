@@ -2,7 +2,7 @@
 use mathlib.Core.Path.{_≡_, refl, ap, ap₂, sym, _∙_, subst, subst₃}
 use mathlib.Core.Bool.{Bool, true, false, cond, not, false≢true}
 use mathlib.Core.List.{List}
-use mathlib.Core.Logic.{_⊎_, inl, inr, ⊎-elim}
+use mathlib.Core.Logic.{_⊎_, inl, inr, ⊎-elim, ite}
 use mathlib.Core.Option.{Option, none, some}
 use Prim.Native.Nat.{ℕ, _≤_, _<_}
 use native.Mathlib.Omega.{arith}
@@ -12,16 +12,17 @@ use borrow.Author.Tests.{lt-ltb, eq-eqb, ne-eqb}
 use Rattle.base.specs.Words.{listed, Bytes}
 use Rattle.base.proofs.Grow.{length-listed, listed-at}
 use Rattle.base.proofs.Order.{lt-or-ge}
-use Rattle.base.proofs.Says.{Says, says-and, says-true, denies}
+use Rattle.base.proofs.Says.{says-and, says-true, denies}
 use Rattle.base.proofs.First.{first-found}
 use Rattle.term.specs.Term.{Head, Term, atom, atomKind, single, isKey, inverse}
 use Rattle.term.specs.Reduce.{op}
 use Rattle.term.specs.Number.{rules, hasOne}
 use Rattle.term.specs.Step.{Undoes}
-use Rattle.term.proofs.Reduce.{step-op}
+use Rattle.term.proofs.Reduce.{step-op, says-test}
+use Rattle.term.specs.Computed.{term?}
 use Rattle.term.proofs.Reach.{Reach, known, reach-iff}
 use Rattle.term.proofs.Guess.{UndoesSome, OutOfReach, FreshGuess, MayHold, clean, tried, Executed, op-may-hold, another-step-differs, at-start-differs, verified-no-key}
-use Rattle.submission.specs.{Record.entries, Record.steps, Record.entryAt, Record.ruleAt, Record.pAt, Record.qAt, Record.conclusionAt, Record.guess, Record.verifying, Record.wayAt, Record.companion, Record.nameAt, Record.term, Computed.areInverse, Computed.isTarget, Record.InKnowledge, Record.guessed}
+use Rattle.submission.specs.{Record.entries, Record.steps, Record.entryAt, Record.ruleAt, Record.pAt, Record.qAt, Record.conclusionAt, Record.guess, Record.verifying, Record.wayAt, Record.companion, Record.nameAt, Record.term, Computed.areInverse, Record.InKnowledge, Record.guessed}
 use Rattle.submission.specs.Check.{Way, another-step, at-start, inverse-key, guess-derived, inverse-derived, wayOf, Target, the-guess, its-inverse, derived, claimsIn, claims, knowledgeStep, given-register}
 use Rattle.submission.proofs.theory.{ListedTerms.Claimed, ListedTerms.claimed-fits, ListedTerms.guess-key, ReadingRows.claimed-clear}
 use Rattle.derivation.specs.{Step.written, Computed.isKnown}
@@ -31,12 +32,12 @@ use Rattle.program.specs.Program.{relationOf, bytesOf}
 use Rattle.machine.specs.Run.{holds as relates, signals, signal}
 use Rattle.program.proofs.theory.Bytes.{byte-count, test-back, program-passes}
 use Rattle.machine.proofs.theory.RunRegisters.{register-entry, register-guess, says-equal, says-inverse}
-use Rattle.conditions.specs.Computed.{hasSecondWay, entryGiven}
+use Rattle.conditions.specs.Computed.{hasSecondWay}
 use Rattle.conditions.specs.Condition.{WellFormed, Given, target, Verified, ClaimMet, FiveConditions, SecondWay}
 use Rattle.derivation.specs.Step.{rule, firstPremise, secondPremise, concluded, guessCounts}
-use Rattle.conditions.specs.Calls.{lowest, named, instruction, program, testFor}
+use Rattle.conditions.specs.Calls.{lowest, entryGiven, named, instruction, program, testFor}
 use Rattle.conditions.specs.Demand.{WrongGuess}
-use Rattle.conditions.proofs.theory.ConditionsMeant.{founded-at, says-target, second-way-iff}
+use Rattle.conditions.proofs.theory.ConditionsMeant.{founded-at, second-way-iff}
 use Rattle.conditions.proofs.theory.ProgramRun.{lowest-known, program-steps, value, result, same-operand, holds, holds-lowest}
 use Rattle.program.specs.Computed.{badInstruction, badTest, badProgram}
 use Rattle.conditions.specs.Code.{Differs}
@@ -86,18 +87,15 @@ module _ (s : List ℕ) (bytes : Bytes s) (w : WellFormed s) (c : FiveConditions
 
   -- ---- ways k and j: the register of what gives the term claimed
   -- an entry that is the term claimed
-  entry-gives : (t : Target) → claims s ≡ derived t → InKnowledge s (target s t) → (q : ℕ) × (entryGiven s t ≡ some q) × (q < entries s) × (term s (entryAt s q) ≡ target s t)
+  entry-gives : (t : Target) → InKnowledge s (target s t) → (entryGiven s t < entries s) × (term s (entryAt s (entryGiven s t)) ≡ target s t)
   unfolding entryGiven
-  entry-gives t k (r, l, e) =
-      let says : (r : ℕ) → r < entries s → Says (isTarget s t (entryAt s r)) (target s t ≡ term s (entryAt s r)) =
-      λ r l. says-target claim (w .shaped) t (claimed-fits claim (derived t) k) (entryAt s r) (claim .read .entry-below r l) in
-      let (q, f, b, h) = first-found (λ r. isTarget s t (entryAt s r)) (entries s) r l (says r l .1 e) in
-      (q, f, omega arith, sym (says q (omega arith) .0 h))
+  entry-gives t (r, l, e) =
+      let (q, f, b, h) = first-found (λ r. ite (term? (target s t) (term s (entryAt s r))) true false) (entries s) r l (says-test (term? (target s t) (term s (entryAt s r))) .1 e) in
+      rw (f, entryGiven) (omega arith, sym (says-test (term? (target s t) (term s (entryAt s q))) .0 h))
 
-  module _ (t : Target) (k : claims s ≡ derived t) where
-    given-below : Given s (target s t) → named s (given-register t) < written s (steps s)
-    given-below (inl (l, e)) = rw (ne-eqb (verifying s) knowledgeStep (λ q. omega (arith, claim .read .steps-most))) (omega arith)
-    given-below (inr (q, i)) = let (r, f, l, e) = entry-gives t k i in rw (eq-eqb (verifying s) knowledgeStep q, f) (omega arith)
+  given-below : (t : Target) → Given s (target s t) → named s (given-register t) < written s (steps s)
+  given-below t (inl (l, e)) = rw (ne-eqb (verifying s) knowledgeStep (λ q. omega (arith, claim .read .steps-most))) (omega arith)
+  given-below t (inr (q, i)) = rw (eq-eqb (verifying s) knowledgeStep q) (omega (arith, entry-gives t i .0))
 
   -- ---- check 13
   instruction-good : (i : ℕ) → i < steps s → badInstruction (written s i) (instruction s i) ≡ false
@@ -117,8 +115,8 @@ module _ (s : List ℕ) (bytes : Bytes s) (w : WellFormed s) (c : FiveConditions
   test-good (some another-step) e v = let (l, f, d) = second-of e v in (omega (arith, v .present), omega arith)
   test-good (some at-start) e v = let (k, f, b) = lowest-known s 0 _ (omega arith) (start-known e v) in (omega (arith, v .present), omega arith)
   test-good (some inverse-key) e v = (omega (arith, v .present), lowest-known s (steps s) _ (omega arith) (inverse-known e v) .2)
-  test-good (some guess-derived) e g = (omega arith, given-below the-guess (ap claimsIn e) g)
-  test-good (some inverse-derived) e g = (omega arith, given-below its-inverse (ap claimsIn e) g)
+  test-good (some guess-derived) e g = (omega arith, given-below the-guess g)
+  test-good (some inverse-derived) e g = (omega arith, given-below its-inverse g)
 
   test-passes : (n : ℕ) (x : Way) → testFor s (some x) .left < n → testFor s (some x) .right < n → badTest n (testFor s (some x)) ≡ false
   unfolding badTest relationOf
@@ -165,8 +163,8 @@ module _ (s : List ℕ) (bytes : Bytes s) (w : WellFormed s) (c : FiveConditions
         rw (ne-eqb (verifying s) knowledgeStep (λ q. omega (arith, claim .read .steps-most)))
         (own-value (verifying s) l ∙ sym e)
     given-value (inr (q, i)) =
-        let (r, f, l, e) = entry-gives t k i in
-        rw (eq-eqb (verifying s) knowledgeStep q, f) (register-entry s name (bytesOf (program s)) (steps s) r l ∙ e)
+        let (l, e) = entry-gives t i in
+        rw (eq-eqb (verifying s) knowledgeStep q) (register-entry s name (bytesOf (program s)) (steps s) (entryGiven s t) l ∙ e)
 
   guess-value : (name : ℕ) → value s name (steps s) (entries s) ≡ guessed s name
   guess-value name = register-guess s name (bytesOf (program s)) (steps s)
