@@ -14,9 +14,10 @@ use Rattle.base.proofs.First.{first-none, first-some, passed-any, passed-not-an
 use Rattle.base.proofs.Order.{lt-or-ge}
 use Rattle.term.specs.Number.{hasOne}
 use Rattle.submission.specs.declared.Claim.{Claim}
-use Rattle.submission.specs.Code.{Limited, IsClaim}
+use Rattle.submission.specs.Code.{Limited, wayIs, IsClaim}
 use Rattle.submission.specs.{Record.entries, Record.steps, Record.pAt, Record.wayAt, Record.companion, Computed.areInverse}
-use Rattle.submission.specs.declared.Way.the-variants.{AnotherStep, AtStart, InverseKey, GuessDerived, InverseDerived}
+use Rattle.submission.specs.declared.Way.{Way as WayRead}
+use Rattle.submission.specs.declared.Way.the-variants.{AnotherStep, AtStart, InverseKey}
 use Rattle.submission.specs.Check.{wayOf}
 use Rattle.derivation.specs.declared.Step.{Step}
 use Rattle.derivation.specs.{Step.written, Computed.isKnown}
@@ -112,12 +113,9 @@ module _ {s : List ℕ} {c : Claim} (h : IsClaim s c) where
     pub by-inverse : {r : Bool} → c .way ≡ InverseKey → r ≡ (areInverse s (st .conclusion) (c .companion) && isKnown s (steps s) (c .companion)) → r ≡ hasSecondWay s (wayOf (wayAt s))
     by-inverse e f = rw (h .way, e, ← (h .step), ← (k .conclusion), ← (h .other)) f
 
-  pub by-none : c .way ≡ GuessDerived → false ≡ hasSecondWay s (wayOf (wayAt s))
-  by-none e = rw (h .way, e)
-
-  pub by-none-either : c .way ≡ InverseDerived → false ≡ hasSecondWay s (wayOf (wayAt s))
-  by-none-either e = rw (h .way, e)
+  pub by-none : (w : WayRead) → c .way ≡ w → hasSecondWay s (some (wayIs w)) ≡ false → false ≡ hasSecondWay s (wayOf (wayAt s))
+  by-none w e f = rw (h .way, e, f)
 
 pub ruleset premises = (first-premise, second-premise, both-premises, no-premise, other-conclusion, other-rule, other-premises)
 
-pub ruleset ways = (known-at-start, known-at-end, by-another-step, by-start, by-inverse, by-none, by-none-either)
+pub ruleset ways = (known-at-start, known-at-end, by-another-step, by-start, by-inverse, by-none)

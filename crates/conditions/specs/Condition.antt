@@ -10,14 +10,9 @@ pub record WellFormed (s : List ℕ) : Type 0 where
   pub read : Clear (rows1to5 s)
   pub shaped : (i : ℕ) → i < steps s → StepFits s i
 
--- A5: "the step, or the 255, giving the term claimed": the named step concludes t, or t "is itself in the knowledge"
-abbrev pub Given : List ℕ → Term → Type 0
-Given s t = ((verifying s < steps s) × (t ≡ concluded s (verifying s))) ⊎ ((verifying s ≡ knowledgeStep) × InKnowledge s t)
-
--- the term claimed: way k, "the guess"; way j, "its inverse"
-abbrev pub target : List ℕ → Target → Term
-target s the-guess = term s (guess s)
-target s its-inverse = inverse (term s (guess s))
+-- 1. "Every step is founded."
+abbrev pub EachFounded : List ℕ → Type 0
+EachFounded s = (i : ℕ) → i < steps s → Known s i (firstPremise s i) × Known s i (secondPremise s i)
 
 -- 4. "Way a: the companion is a step that also concludes v, with another rule or another premise set.
 -- Way b: v is in the knowledge or is the guess; companion 0.
@@ -50,14 +45,19 @@ pub record Verified (s : List ℕ) : Type 0 where
   -- 5. "No step anywhere in the derivation is undone by the verifying step, nor in way a by the companion."
   pub kept : (i : ℕ) → i < steps s → Undone s i → ⊥
 
+-- A5: "the step, or the 255, giving the term claimed": the named step concludes t, or t "is itself in the knowledge"
+abbrev pub Given : List ℕ → Term → Type 0
+Given s t = ((verifying s < steps s) × (t ≡ concluded s (verifying s))) ⊎ ((verifying s ≡ knowledgeStep) × InKnowledge s t)
+
+-- the term claimed: way k, "the guess"; way j, "its inverse"
+abbrev pub target : List ℕ → Target → Term
+target s the-guess = term s (guess s)
+target s its-inverse = inverse (term s (guess s))
+
 -- A5: "Conditions 2 to 5 don't apply; in demands 2 and 3 their place is taken by the step, or the 255, giving the term claimed."
 abbrev pub ClaimMet : List ℕ → Claims → Type 0
 ClaimMet s verifier = Verified s
 ClaimMet s (derived t) = Given s (target s t)
-
--- 1. "Every step is founded."
-abbrev pub EachFounded : List ℕ → Type 0
-EachFounded s = (i : ℕ) → i < steps s → Known s i (firstPremise s i) × Known s i (secondPremise s i)
 
 pub record FiveConditions (s : List ℕ) : Type 0 where
   pub founded : EachFounded s

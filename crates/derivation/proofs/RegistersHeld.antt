@@ -43,11 +43,11 @@ module _ (f : List ℕ) {i t : ℕ} (q : ℕ) (e : i ≡ t) where
 -- ---- the guess, which is held where it counts
 -- x is the row of the claim's way
 module _ (x : RowRead) (w : WayRead) (e : rowIs x ≡ row (wayIs w)) where
-  pub claims-verifier : x .claims ≡ Verifier → true ≡ guessCounts (row (wayIs w) .claims)
-  claims-verifier f = rw (← e, f)
+  pub guess-known : x .claims ≡ Verifier → true ≡ guessCounts (row (wayIs w) .claims)
+  guess-known f = rw (← e, f)
 
-  pub claims-derived : {t : TargetRead} → x .claims ≡ Derived t → false ≡ guessCounts (row (wayIs w) .claims)
-  claims-derived f = rw (← e, f)
+  pub guess-unknown : {t : TargetRead} → x .claims ≡ Derived t → false ≡ guessCounts (row (wayIs w) .claims)
+  guess-unknown f = rw (← e, f)
 
 module _ (f : List ℕ) (c : Claim) (q : ℕ) {b : Bool} (e : b ≡ guessCounts (row (wayIs (c .way)) .claims)) where
   pub guess-held : {f′ : List ℕ} → b ≡ true → f′ ≡ holding f (c .guess) q → f′ ≡ withGuess f c q

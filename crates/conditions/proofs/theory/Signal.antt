@@ -14,7 +14,7 @@ use Rattle.base.proofs.Grow.{length-listed, listed-at}
 use Rattle.base.proofs.Order.{lt-or-ge}
 use Rattle.base.proofs.Says.{says-and, says-true, denies}
 use Rattle.base.proofs.First.{first-found}
-use Rattle.term.specs.Term.{Head, Term, atom, atomKind, single, isKey, inverse}
+use Rattle.term.specs.Term.{Head, Term, atom, atomKind, single, isKey, inverse, Relation, equal, inverses}
 use Rattle.term.specs.Reduce.{op}
 use Rattle.term.specs.Number.{rules, hasOne}
 use Rattle.term.specs.Step.{Undoes}
@@ -23,12 +23,12 @@ use Rattle.term.specs.Computed.{term?}
 use Rattle.term.proofs.Reach.{Reach, known, reach-iff}
 use Rattle.term.proofs.Guess.{UndoesSome, OutOfReach, FreshGuess, MayHold, clean, tried, Executed, op-may-hold, another-step-differs, at-start-differs, verified-no-key}
 use Rattle.submission.specs.{Record.entries, Record.steps, Record.entryAt, Record.ruleAt, Record.pAt, Record.qAt, Record.conclusionAt, Record.guess, Record.verifying, Record.wayAt, Record.companion, Record.nameAt, Record.term, Computed.areInverse, Record.InKnowledge, Record.guessed}
-use Rattle.submission.specs.Check.{Way, another-step, at-start, inverse-key, guess-derived, inverse-derived, wayOf, Target, the-guess, its-inverse, derived, claimsIn, claims, knowledgeStep, given-register}
+use Rattle.submission.specs.Check.{Way, another-step, at-start, inverse-key, guess-derived, inverse-derived, wayOf, Target, the-guess, its-inverse, verifier, derived, claimsIn, claims, knowledgeStep, given-register, row}
 use Rattle.submission.proofs.theory.{ListedTerms.Claimed, ListedTerms.claimed-fits, ListedTerms.guess-key, ReadingRows.claimed-clear}
 use Rattle.derivation.specs.{Step.written, Computed.isKnown}
 use Rattle.submission.specs.Record.{secondAt}
 use Rattle.derivation.proofs.theory.{RegisterTerms.result-register, RegisterTerms.counts-other, KnownPremises.first-known, KnownPremises.second-known}
-use Rattle.program.specs.Program.{relationOf, bytesOf}
+use Rattle.program.specs.Program.{rowOf, relationOf, bytesOf}
 use Rattle.machine.specs.Run.{holds as relates, signals, signal}
 use Rattle.program.proofs.theory.Bytes.{byte-count, test-back, program-passes}
 use Rattle.machine.proofs.theory.RunRegisters.{register-entry, register-guess, says-equal, says-inverse}
@@ -77,13 +77,14 @@ module _ (s : List ℕ) (bytes : Bytes s) (w : WellFormed s) (c : FiveConditions
   second-of : {o : Option Way} → wayOf (wayAt s) ≡ o → Verified s → SecondWay s o
   second-of e v = subst (SecondWay s) e (v .secondWay)
 
+  way-found : {o : Option Way} → wayOf (wayAt s) ≡ o → claimsIn o ≡ verifier → Verified s → hasSecondWay s o ≡ true
+  way-found e k v = subst (λ o. hasSecondWay s o ≡ true) e (second-way-iff claim (w .shaped) (ap claimsIn e ∙ k) .1 (v .secondWay))
+
   start-known : wayOf (wayAt s) ≡ some at-start → Verified s → isKnown s 0 (conclusionAt s (verifying s)) ≡ true
-  start-known e v = subst (λ o. hasSecondWay s o ≡ true) e (second-way-iff claim (w .shaped) (ap claimsIn e) .1 (v .secondWay))
+  start-known e v = way-found e refl v
 
   inverse-known : wayOf (wayAt s) ≡ some inverse-key → Verified s → isKnown s (steps s) (companion s) ≡ true
-  inverse-known e v =
-      says-and (areInverse s (conclusionAt s (verifying s)) (companion s)) _ (says-true _) (says-true _) .0
-      (subst (λ o. hasSecondWay s o ≡ true) e (second-way-iff claim (w .shaped) (ap claimsIn e) .1 (v .secondWay))) .1
+  inverse-known e v = says-and (areInverse s (conclusionAt s (verifying s)) (companion s)) _ (says-true _) (says-true _) .0 (way-found e refl v) .1
 
   -- ---- ways k and j: the register of what gives the term claimed
   -- an entry that is the term claimed
@@ -118,17 +119,14 @@ module _ (s : List ℕ) (bytes : Bytes s) (w : WellFormed s) (c : FiveConditions
   test-good (some guess-derived) e g = (omega arith, given-below the-guess g)
   test-good (some inverse-derived) e g = (omega arith, given-below its-inverse g)
 
-  test-passes : (n : ℕ) (x : Way) → testFor s (some x) .left < n → testFor s (some x) .right < n → badTest n (testFor s (some x)) ≡ false
+  relation-passes : (n : ℕ) (r : Relation) (a b : ℕ) → a < n → b < n → badTest n (record { rule = rowOf r .letter; left = a; right = b }) ≡ false
   unfolding badTest relationOf
-  test-passes n another-step l r = rw (lt-ltb _ n l, lt-ltb _ n r)
-  test-passes n at-start l r = rw (lt-ltb _ n l, lt-ltb _ n r)
-  test-passes n inverse-key l r = rw (lt-ltb _ n l, lt-ltb _ n r)
-  test-passes n guess-derived l r = rw (lt-ltb _ n l, lt-ltb _ n r)
-  test-passes n inverse-derived l r = rw (lt-ltb _ n l, lt-ltb _ n r)
+  relation-passes n equal a b l m = rw (lt-ltb a n l, lt-ltb b n m)
+  relation-passes n inverses a b l m = rw (lt-ltb a n l, lt-ltb b n m)
 
-  claim-test-passes : (o : Option Way) → o ≡ some (claim .way) → testFor s o .left < written s (steps s) → testFor s o .right < written s (steps s) → badTest (written s (steps s)) (testFor s o) ≡ false
-  claim-test-passes o e l r =
-      subst (λ o. testFor s o .left < written s (steps s) → testFor s o .right < written s (steps s) → badTest (written s (steps s)) (testFor s o) ≡ false) (sym e) (test-passes (written s (steps s)) (claim .way)) l r
+  test-passes : (n : ℕ) (o : Option Way) → o ≡ some (claim .way) → testFor s o .left < n → testFor s o .right < n → badTest n (testFor s o) ≡ false
+  test-passes n o e l r =
+      subst (λ o. testFor s o .left < n → testFor s o .right < n → badTest n (testFor s o) ≡ false) (sym e) (relation-passes n (row (claim .way) .relation) _ _) l r
 
   pub program-good : badProgram s (bytesOf (program s)) ≡ false
   unfolding program
@@ -137,7 +135,7 @@ module _ (s : List ℕ) (bytes : Bytes s) (w : WellFormed s) (c : FiveConditions
       let e : length (listed (instruction s) (steps s)) ≡ steps s = length-listed (instruction s) (steps s) in
       program-passes (program s) s (instruction s 0) (rw e (claim .read .steps-most))
       (λ i l. let h : i < steps s = rw e at l in ap (badInstruction (written s i)) (listed-at (instruction s) i (steps s) (instruction s 0) h) ∙ instruction-good i h)
-      (rw e (claim-test-passes (wayOf (wayAt s)) (claim .has-way) l r))
+      (rw e (test-passes (written s (steps s)) (wayOf (wayAt s)) (claim .has-way) l r))
 
   -- ---- where the guess's register holds the guess, or does not count, each register that counts holds its own term
   own-next : (i : ℕ) → i < steps s → (v u : Term) → v ≡ firstPremise s i → u ≡ secondPremise s i → (single (rule s i) ≡ true → v ≡ u) → op (rule s i) v u ≡ concluded s i

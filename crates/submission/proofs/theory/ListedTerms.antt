@@ -290,12 +290,12 @@ step-below s guess-derived n e l = absurd (let z : _≡_ {A = ℕ} 0 1 = cc in o
 step-below s inverse-derived n e l = absurd (let z : _≡_ {A = ℕ} 0 1 = cc in omega arith)
 
 -- a step that gives the term claimed is one of the derivation, or 255
-step-or-entry : (s : List ℕ) (w : Way) (n : ℕ) (t : Target) → row w .claims ≡ derived t → InRange s (row w .step) n → (n < steps s) ⊎ (n ≡ knowledgeStep)
-step-or-entry s another-step n t e l = inl l
-step-or-entry s at-start n t e l = inl l
-step-or-entry s inverse-key n t e l = inl l
-step-or-entry s guess-derived n t e l = l
-step-or-entry s inverse-derived n t e l = l
+named-below : (s : List ℕ) (w : Way) (n : ℕ) (t : Target) → row w .claims ≡ derived t → InRange s (row w .step) n → (n < steps s) ⊎ (n ≡ knowledgeStep)
+named-below s another-step n t e l = inl l
+named-below s at-start n t e l = inl l
+named-below s inverse-key n t e l = inl l
+named-below s guess-derived n t e l = l
+named-below s inverse-derived n t e l = l
 
 module _ {s : List ℕ} (c : Claimed s) where
   pub claims-way : claims s ≡ row (c .way) .claims
@@ -305,7 +305,7 @@ module _ {s : List ℕ} (c : Claimed s) where
   verifying-below e = step-below s (c .way) _ (sym claims-way ∙ e) (c .step-range)
 
   pub given-range : (t : Target) → claims s ≡ derived t → (verifying s < steps s) ⊎ (verifying s ≡ knowledgeStep)
-  given-range t e = step-or-entry s (c .way) _ t (sym claims-way ∙ e) (c .step-range)
+  given-range t e = named-below s (c .way) _ t (sym claims-way ∙ e) (c .step-range)
 
   pub claimed-fits : (k : Claims) → claims s ≡ k → GuessFits s k
   claimed-fits k e = subst (GuessFits s) (sym claims-way ∙ e) (c .guess-fits)
