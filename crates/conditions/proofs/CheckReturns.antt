@@ -30,7 +30,7 @@ use Rattle.conditions.specs.Calls.{verdictAnswer, Checked, program}
 use Rattle.conditions.specs.Code.{Founded, Acceptable}
 use Rattle.conditions.proofs.theory.ProgramRun.{program-bytes}
 use Rattle.submission.specs.Computed.{checks1to5}
-use Rattle.conditions.specs.Computed.{checkClaim, checksBeforePage, checkAnswer}
+use Rattle.conditions.specs.Computed.{checkMet, checksBeforePage, checkAnswer}
 
 -- ---- check 11
 module _ (s page : List ℕ) {n k : ℕ} (e : n ≡ steps s) (f : k ≡ programLength n) where
@@ -98,14 +98,14 @@ module _ (s : List ℕ) {r : Reading} (reading : ReadingIs s (checks1to5 s) r) w
         pub steps-founded : ((i : ℕ) → Fits w8 (byte s i)) → Founded s
         steps-founded f = record { bytes = bytes s f; read = reading-passes; founded = stage-passes _ (each .answer) passed }
 
-        module _ {t : Stage} (claim : checkOf t ≡ checkClaim s (claims s)) where
+        module _ {t : Stage} (claim : checkOf t ≡ checkMet s (claims s)) where
           pub claim-out : (page : List ℕ) (n : ℕ) {a b : ℕ} (v : Verdict) → t ≡ stage.Refused a b → verdictAnswer v ≡ answered (checkOf t) (done n) → Checked s page v page
           unfolding all checksBeforePage
           claim-out page n {a} {b} v q f =
               refused-out s page a b v (rw (reading-passes, stage-passes _ (each .answer) passed, said a b claim q)) (of-refusal n a b f q)
 
 -- ---- a submission that passed all checks before 11
-pub met-acceptable : {s : List ℕ} {t : Stage} → Founded s → checkOf t ≡ checkClaim s (claims s) → t ≡ stage.Passed → Acceptable s
+pub met-acceptable : {s : List ℕ} {t : Stage} → Founded s → checkOf t ≡ checkMet s (claims s) → t ≡ stage.Passed → Acceptable s
 unfolding checksBeforePage
 met-acceptable h e q = record { bytes = h .bytes; passed = rw (h .read, h .founded) (stage-passes _ e q) }
 

@@ -14,10 +14,10 @@ use Rattle.submission.specs.declared.Row.{Row as RowRead}
 use Rattle.submission.specs.declared.Claims.the-variants.{Verifier, Derived}
 use Rattle.submission.specs.declared.Target.{Target as TargetRead}
 use Rattle.submission.specs.declared.Target.the-variants.{Guess, Inverse}
-use Rattle.submission.specs.{Record.entries, Record.entryAt, Record.conclusionAt, Record.verifying, Check.knowledgeStep, Check.Target, Check.verifier, Check.derived, Check.claimsIn, Check.claims, Check.row, Computed.areInverse, Computed.isTarget, Code.Limited, Code.wayIs, Code.targetIs, Code.claimsIs, Code.rowIs, Code.IsClaim}
+use Rattle.submission.specs.{Record.entries, Record.entryAt, Record.conclusionAt, Record.verifying, Check.knowledgeStep, Check.Target, Check.verifier, Check.derived, Check.claimsIn, Check.claims, Check.row, Computed.areInverse, Code.Limited, Code.wayIs, Code.targetIs, Code.claimsIs, Code.rowIs, Code.IsClaim}
 use Rattle.derivation.specs.declared.Step.{Step}
 use Rattle.derivation.specs.Code.{IsStep}
-use Rattle.conditions.specs.Computed.{entryFound, isGiven, checks8to10, checkClaim}
+use Rattle.conditions.specs.Computed.{isTarget, entryFound, isGiven, checks8to10, checkMet}
 
 -- ---- whether term n is the one claimed
 module _ {s : List ℕ} {c : Claim} (h : IsClaim s c) (n : ℕ) {t : TargetRead} where
@@ -71,10 +71,10 @@ module _ {s : List ℕ} {c : Claim} (h : IsClaim s c) (x : RowRead) (e : rowIs x
   pub claims-verifier : x .claims ≡ Verifier → claims s ≡ verifier
   claims-verifier f = claims-are ∙ ap claimsIs f
 
-  pub by-verifier : {d : Check} → x .claims ≡ Verifier → d ≡ checks8to10 s → d ≡ checkClaim s (claims s)
+  pub by-verifier : {d : Check} → x .claims ≡ Verifier → d ≡ checks8to10 s → d ≡ checkMet s (claims s)
   by-verifier f g = rw (claims-verifier f) g
 
-  pub by-target : {d : Check} {t : TargetRead} → x .claims ≡ Derived t → d ≡ failsIf (not (isGiven s (targetIs t))) 16 0 → d ≡ checkClaim s (claims s)
+  pub by-target : {d : Check} {t : TargetRead} → x .claims ≡ Derived t → d ≡ failsIf (not (isGiven s (targetIs t))) 16 0 → d ≡ checkMet s (claims s)
   by-target {t = t} f g = let k : claims s ≡ derived (targetIs t) = claims-are ∙ ap claimsIs f in rw k g
 
 pub ruleset claim-tests = (claims-verifier, by-verifier, by-target)

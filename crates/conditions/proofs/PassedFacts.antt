@@ -20,7 +20,7 @@ use Rattle.derivation.specs.Code.{IsStep}
 use Rattle.derivation.proofs.theory.StepMeaning.{second-listed, fits-iff, steps-pass}
 use Rattle.deduction.specs.Computed.{entryMarks, isDeducible}
 use Rattle.submission.specs.Code.{TableRead}
-use Rattle.conditions.specs.Computed.{reachable, hasSecondWay, undone, isGiven, checkClaim, checksBeforePage}
+use Rattle.conditions.specs.Computed.{reachable, hasSecondWay, undone, isGiven, checkMet, checksBeforePage}
 use Rattle.derivation.specs.Computed.{checkSteps}
 use Rattle.conditions.specs.Code.{Founded, Acceptable}
 use Rattle.base.specs.Words.{first}
@@ -77,11 +77,11 @@ module _ {s : List ℕ} (h : Acceptable s) where
   pub acceptable-limited : Limited s
   acceptable-limited = founded-limited acceptable-founded
 
-  claim-passes : (k : Claims) → claims s ≡ k → checkClaim s k ≡ passes
+  claim-passes : (k : Claims) → claims s ≡ k → checkMet s k ≡ passes
   unfolding checksBeforePage
   claim-passes k e =
       let (r, t) = then-passes (checks1to5 s) _ .0 (h .passed) in
-      subst (λ k. checkClaim s k ≡ passes) e (then-passes (checkSteps s) _ .0 t .1)
+      subst (λ k. checkMet s k ≡ passes) e (then-passes (checkSteps s) _ .0 t .1)
 
   pub second-way : claims s ≡ verifier → hasSecondWay s (wayOf (wayAt s)) ≡ true
   second-way v =

@@ -4,7 +4,7 @@ use mathlib.Core.{Bool.Bool, Bool.false, Bool._&&_, Bool._||_, Bool.not, Bool.co
 use Prim.Native.Nat.{ℕ}
 use lib.Dec.{eqb}
 use Rattle.term.specs.Computed.{ruleTakesApart}
-use Rattle.submission.specs.{Record.entries, Record.steps, Record.entryAt, Record.ruleAt, Record.pAt, Record.conclusionAt, Record.verifying, Record.wayAt, Record.companion, Computed.areInverse, Check.Way, Check.another-step, Check.at-start, Check.inverse-key, Check.guess-derived, Check.inverse-derived, Check.wayOf, Check.Target, Check.Claims, Check.verifier, Check.derived, Check.claims, Check.knowledgeStep, Check.row, Computed.isTarget, Record.secondAt, Record.guess, Record.nameAt, Record.guessed, Computed.checks1to5}
+use Rattle.submission.specs.{Record.entries, Record.steps, Record.entryAt, Record.ruleAt, Record.pAt, Record.conclusionAt, Record.verifying, Record.wayAt, Record.companion, Computed.areInverse, Check.Way, Check.another-step, Check.at-start, Check.inverse-key, Check.guess-derived, Check.inverse-derived, Check.wayOf, Check.Target, Check.the-guess, Check.its-inverse, Check.Claims, Check.verifier, Check.derived, Check.claims, Check.knowledgeStep, Check.row, Record.secondAt, Record.guess, Record.nameAt, Record.guessed, Computed.checks1to5}
 use Rattle.derivation.specs.Computed.{isKnown, checkSteps}
 use Rattle.deduction.specs.Computed.{entryMarks, isDeducible}
 use Rattle.program.specs.Program.{programLength}
@@ -60,7 +60,12 @@ checks8to10 s =
     andThen (failsIf (reachable s) 8 (verifying s))
     (andThen (failsIf (not (hasSecondWay s (wayOf (wayAt s)))) 9 (verifying s)) (failsAt 10 (first (undone s) (steps s))))
 
--- A5: the entry of the knowledge that is the term claimed
+-- A5: term n is the one claimed, "the guess, or the inverse"
+abbrev pub isTarget : List ℕ → Target → ℕ → Bool
+isTarget s the-guess n = eqb n (guess s)
+isTarget s its-inverse n = areInverse s (guess s) n
+
+-- the entry of the knowledge that is the term claimed
 unfoldable pub entryFound : List ℕ → Target → Option ℕ
 entryFound s t = first (λ r. isTarget s t (entryAt s r)) (entries s)
 
@@ -69,13 +74,13 @@ unfoldable pub isGiven : List ℕ → Target → Bool
 isGiven s t = cond (eqb (verifying s) knowledgeStep) (isSome (entryFound s t)) (isTarget s t (conclusionAt s (verifying s)))
 
 -- what is claimed: checks 8 to 10, or 16 not shown: "a step or a 255 that doesn't give the term claimed"
-abbrev pub checkClaim : List ℕ → Claims → Check
-checkClaim s verifier = checks8to10 s
-checkClaim s (derived t) = failsIf (not (isGiven s t)) 16 0
+abbrev pub checkMet : List ℕ → Claims → Check
+checkMet s verifier = checks8to10 s
+checkMet s (derived t) = failsIf (not (isGiven s t)) 16 0
 
 -- "Order: as numbered, but 6 and 7 are tried together"; 16 comes "after 7 and before 11"
 unfoldable pub checksBeforePage : List ℕ → Check
-checksBeforePage s = andThen (checks1to5 s) (andThen (checkSteps s) (checkClaim s (claims s)))
+checksBeforePage s = andThen (checks1to5 s) (andThen (checkSteps s) (checkMet s (claims s)))
 
 -- the answer of checking a submission with a page of this length; 11 page: "page under 3N+4 bytes", place "length needed"
 unfoldable pub checkAnswer : List ℕ → ℕ → Answer

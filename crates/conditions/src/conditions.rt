@@ -17,7 +17,7 @@ ghost use Rattle.base.specs.Code.{checkOf};
 ghost use Rattle.derivation.specs.Step.{written};
 ghost use Rattle.derivation.specs.Computed.{isKnown};
 ghost use Rattle.derivation.specs.Code.{Lowest};
-ghost use Rattle.conditions.specs.Computed.{reachable, isPremise, samePremises, hasSecondWay, dismantles as dismantlesBy, undoesStep, undone, checks8to10, checkClaim};
+ghost use Rattle.conditions.specs.Computed.{reachable, isPremise, samePremises, hasSecondWay, dismantles as dismantlesBy, undoesStep, undone, checks8to10, checkMet};
 ghost use Rattle.conditions.specs.Code.{Founded, otherWay};
 ghost use Rattle.base.specs.Words.{first};
 
@@ -228,11 +228,11 @@ fn check_conditions(s: &[u8], first: &[u8; 256], claim: Claim) -> Stage
 }
 
 // The checks of what the claim's way claims: 8 to 10 of a verifier, 16 of what is derived.
-pub fn check_claim(s: &[u8], first: &[u8; 256], claim: Claim) -> Stage
+pub fn check_met(s: &[u8], first: &[u8; 256], claim: Claim) -> Stage
     requires { ⌜ Founded (now s) ⌝ }
     requires { ⌜ Lowest (now s) (written (now s) (steps (now s))) (now first) ⌝ }
     requires { ⌜ IsClaim (now s) claim ⌝ }
-    ensures { λ r. ⌜ checkOf r ≡ checkClaim (now (s .entry)) (claims (now (s .entry))) ⌝ }
+    ensures { λ r. ⌜ checkOf r ≡ checkMet (now (s .entry)) (claims (now (s .entry))) ⌝ }
 {
     let way = claim.way;
     let row = submission::row_of(way);

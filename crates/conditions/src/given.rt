@@ -5,10 +5,9 @@ use submission::Target;
 ghost use mathlib.Core.Path.{_≡_};
 ghost use mathlib.Core.Bool.{not};
 ghost use Rattle.submission.specs.Code.{Limited, targetIs, IsClaim};
-ghost use Rattle.submission.specs.Computed.{isTarget};
 ghost use Rattle.base.specs.Computed.{orNone, failsIf};
 ghost use Rattle.base.specs.Code.{checkOf};
-ghost use Rattle.conditions.specs.Computed.{entryFound, isGiven};
+ghost use Rattle.conditions.specs.Computed.{isTarget, entryFound, isGiven};
 
 // Whether term n is the one claimed.
 fn is_target(s: &[u8], claim: Claim, target: Target, n: u8) -> bool

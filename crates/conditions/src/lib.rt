@@ -91,7 +91,7 @@ pub fn check(s: &[u8], page: &mut [u8]) -> Verdict
     let Stage::Passed = steps else {
         return verdict_of(steps, count);
     };
-    let met = conditions::check_claim(s, &checked.registers.first, claim);
+    let met = conditions::check_met(s, &checked.registers.first, claim);
     let Stage::Passed = met else {
         return verdict_of(met, count);
     };

@@ -1,7 +1,7 @@
 -- Checks 1 to 5 and tests of terms; what they say is proved: `tells-1-to-5`, `inverse-iff`, `says-stale`.
 use Rattle.base.specs.{Words.Bool, Words.true, Words.false, Words._&&_, Words._||_, Words.not, Words.cond, Words.List, Words.Option, Words.none, Words.some, Words.ℕ, Words._+_, Words._*_, Words.eqb, Words.ltb, Words.length, Words.first, Words.byte, Computed.any, Computed.Check, Computed.failsAt, Computed.failsIf, Computed.andThen}
 use Rattle.term.specs.{Term.asymmetric, Term.isKeyFor, Term.second, Term.unary, Term.Shape, Term.atomic, Term.compound, Term.Term, Term.inverse, Number.shapeOf, Computed.takes, Computed.isAtomic, Computed.inverseKinds, Computed.isPart}
-use Rattle.submission.specs.{Record.letter, Record.count, Record.start, Record.least, Record.most, Record.terms, Record.entries, Record.steps, Record.kindAt, Record.xAt, Record.yAt, Record.entryAt, Record.guess, Record.verifying, Record.wayAt, Record.companion, Record.term, Check.Way, Check.wayOf, Check.Target, Check.the-guess, Check.its-inverse, Check.Claims, Check.verifier, Check.derived, Check.Range, Check.step-number, Check.term-number, Check.zero-only, Check.step-or-knowledge, Check.knowledgeStep, Check.row}
+use Rattle.submission.specs.{Record.letter, Record.count, Record.start, Record.least, Record.most, Record.terms, Record.entries, Record.steps, Record.kindAt, Record.xAt, Record.yAt, Record.entryAt, Record.guess, Record.verifying, Record.wayAt, Record.companion, Record.term, Check.Way, Check.wayOf, Check.the-guess, Check.its-inverse, Check.Claims, Check.verifier, Check.derived, Check.Range, Check.step-number, Check.term-number, Check.zero-only, Check.step-or-knowledge, Check.knowledgeStep, Check.row}
 
 -- 1 contents: "under 16 bytes; a letter, start or the length wrong"
 unfoldable pub badContents : List ℕ → Bool
@@ -72,11 +72,6 @@ checks1to5 s = andThen (checks1to4 s) (failsIf (not (goodClaim s)) 5 0)
 -- the terms of two numbers are keys and each other's inverse
 unfoldable pub areInverse : List ℕ → ℕ → ℕ → Bool
 areInverse s i j = inverseKinds (kindAt s i) (kindAt s j) && (eqb (xAt s i) (xAt s j) && eqb (yAt s i) (yAt s j))
-
--- A5: term n is the one derived, "the guess, or the inverse"
-abbrev pub isTarget : List ℕ → Target → ℕ → Bool
-isTarget s the-guess n = eqb n (guess s)
-isTarget s its-inverse n = areInverse s (guess s) n
 
 -- x is part of a message in the knowledge
 unfoldable pub isKnownPart : List ℕ → Term → Bool

@@ -40,8 +40,8 @@ verdict-of-requires-2 c κs = search needs
 returns-2 : tie.Need-returns-2
 returns-2 c = search steps-out
 
-check-claim-requires : tie.Need-check-claim-requires
-check-claim-requires c κs = (search steps-founded, (search steps-lowest, search reading-claim))
+check-met-requires : tie.Need-check-met-requires
+check-met-requires c κs = (search steps-founded, (search steps-lowest, search reading-claim))
 
 enum-told-4 : tie.Need-enum-told-4
 enum-told-4 c = search needs
@@ -56,7 +56,7 @@ returns-3 : tie.Need-returns-3
 returns-3 c = search claim-out
 
 accept-requires : tie.Need-accept-requires
-accept-requires c κs = (met-acceptable (search steps-founded) (c .before .before .before .before .before .check-claim .ensures) (c .before .before .before .enum-told4 .given .1), (search steps-lowest, search reading-claim))
+accept-requires c κs = (met-acceptable (search steps-founded) (c .before .before .before .before .before .check-met .ensures) (c .before .before .before .enum-told4 .given .1), (search steps-lowest, search reading-claim))
 
 same-length : tie.Need-same-length
 same-length c = search needs
@@ -80,7 +80,7 @@ check-spec =
     enum-told-3
     verdict-of-requires-2
     returns-2
-    check-claim-requires
+    check-met-requires
     enum-told-4
     enum-told-5
     verdict-of-requires-3

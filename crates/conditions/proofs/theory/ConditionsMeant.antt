@@ -20,13 +20,12 @@ use Rattle.term.specs.Step.{Deducible, Undoes}
 use Rattle.term.proofs.Rule.{head-inj, says-takes-apart}
 use Rattle.submission.specs.Record.{terms, entries, steps, entryAt, ruleAt, pAt, conclusionAt, guess, verifying, wayAt, companion, term, InKnowledge, secondAt}
 use Rattle.submission.specs.Check.{Way, another-step, at-start, inverse-key, guess-derived, inverse-derived, wayOf, Target, the-guess, its-inverse, verifier, derived, claims, knowledgeStep, row, InRange, GuessFits}
-use Rattle.submission.specs.Computed.{isTarget}
 use Rattle.submission.proofs.theory.ListedTerms.{Claimed, verifying-below, given-range, claimed-fits, guess-key}
 use Rattle.derivation.specs.Computed.{isKnown, unfounded}
 use Rattle.derivation.proofs.theory.StepMeaning.{second-listed, says-known-term, founded-terms}
 use Rattle.deduction.specs.Computed.{entryMarks, isDeducible}
 use Rattle.deduction.proofs.theory.Exactness.{deducible-iff}
-use Rattle.conditions.specs.Computed.{reachable, isPremise, samePremises, hasSecondWay, undoesStep, companionUndoes, undone, entryFound, isGiven}
+use Rattle.conditions.specs.Computed.{reachable, isPremise, samePremises, hasSecondWay, undoesStep, companionUndoes, undone, isTarget, entryFound, isGiven}
 use Rattle.derivation.specs.Step.{rule, firstPremise, secondPremise, concluded, guessCounts, Known, StepFits, Premise}
 use Rattle.conditions.specs.Condition.{Given, target, SecondWay, Undone}
 use Rattle.conditions.specs.Code.{Differs}

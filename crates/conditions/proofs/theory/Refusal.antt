@@ -15,7 +15,7 @@ use Rattle.submission.proofs.theory.{ListedTerms.Claimed, ReadingRows.tells-1-t
 use Rattle.derivation.specs.{Computed.checkSteps, Step.Premise, Step.StepFits, Step.rows6and7}
 use Rattle.derivation.proofs.theory.StepMeaning.{fits-iff, steps-pass, tells-6-and-7}
 use Rattle.program.specs.Program.{programLength}
-use Rattle.conditions.specs.Computed.{reachable, hasSecondWay, undone, isGiven, checkClaim, checksBeforePage, checkAnswer}
+use Rattle.conditions.specs.Computed.{reachable, hasSecondWay, undone, isGiven, checkMet, checksBeforePage, checkAnswer}
 use Rattle.conditions.specs.{Condition.claimRows, Condition.checkRows}
 use Rattle.conditions.proofs.theory.ConditionsMeant.{says-given, says-reachable, second-way-iff, says-undone}
 
@@ -25,7 +25,7 @@ all-fit s c k i l = fits-iff (c .read) i .0 (steps-pass s .0 (passes-iff (tells-
 
 module _ (s : List ℕ) (b : Bytes s) where
   -- checks 8 to 10, or 16, of a claim and of steps that are right
-  tells-claim : (c : Claimed s) → ((i : ℕ) → i < steps s → StepFits s i) → (k : Claims) → claims s ≡ k → Tells (checkClaim s k) (claimRows s k)
+  tells-claim : (c : Claimed s) → ((i : ℕ) → i < steps s → StepFits s i) → (k : Claims) → claims s ≡ k → Tells (checkMet s k) (claimRows s k)
   tells-claim c sound verifier v =
       tells-then (failsIf (reachable s) 8 (verifying s)) _ (tells-if (reachable s) 8 (verifying s) (says-reachable c sound v)) (λ _.
       tells-then (failsIf (not (hasSecondWay s (wayOf (wayAt s)))) 9 (verifying s)) (failsAt 10 (first (undone s) (steps s)))
@@ -37,8 +37,8 @@ module _ (s : List ℕ) (b : Bytes s) where
   unfolding checksBeforePage
   tells-check room =
       tells-then (checksBeforePage s) (checkRoom (programLength (steps s)) room)
-      (tells-then (checks1to5 s) (andThen (checkSteps s) (checkClaim s (claims s))) (tells-1-to-5 s b) (λ k. let c = claimed-clear s b k in
-      tells-then (checkSteps s) (checkClaim s (claims s)) (tells-6-and-7 c) (λ m. tells-claim c (all-fit s c m) (claims s) refl)))
+      (tells-then (checks1to5 s) (andThen (checkSteps s) (checkMet s (claims s))) (tells-1-to-5 s b) (λ k. let c = claimed-clear s b k in
+      tells-then (checkSteps s) (checkMet s (claims s)) (tells-6-and-7 c) (λ m. tells-claim c (all-fit s c m) (claims s) refl)))
       (λ _. tells-room (programLength (steps s)) room)
 
 -- Checking refuses with n at p exactly when row n holds at p and no row holds that the order puts before it; else it is done with N.

@@ -1,9 +1,9 @@
--- `check_claim` meets its contract: by what the claim's way claims.
+-- `check_met` meets its contract: by what the claim's way claims.
 use Rattle.conditions.proofs.PassedFacts.{founded}
 use Rattle.conditions.proofs.GivenTests.{claim-tests}
 use borrow.Author.Needs.{needs}
-use Rattle.conditions.proofs.conditions.check_claim.Statement.{statement}
-use Rattle.conditions.proofs.conditions.check_claim.Tie as tie
+use Rattle.conditions.proofs.conditions.check_met.Statement.{statement}
+use Rattle.conditions.proofs.conditions.check_met.Tie as tie
 
 row-of-requires : tie.Need-row-of-requires
 row-of-requires c κs = search needs
@@ -26,8 +26,8 @@ returns c = search (claim-tests, needs)
 returns-2 : tie.Need-returns-2
 returns-2 c = search (claim-tests, needs)
 
-pub check-claim-spec : {M : Type 1} → statement M
-check-claim-spec =
+pub check-met-spec : {M : Type 1} → statement M
+check-met-spec =
     tie.close
     (tie.spec
     row-of-requires
