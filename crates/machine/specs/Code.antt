@@ -4,7 +4,7 @@ use Rattle.term.specs.Term as words
 use mathlib.Core.{Path._≡_, Bool.Bool, Bool.false, Bool._&&_, Bool._||_, Bool.cond, List.List, Option.Option, Option.none, Option.some}
 use Prim.Native.Nat.{ℕ, _+_, _-_, _≤_, _<_}
 use lib.{Dec.eqb, Dec.ltb, Dec.leb, ListN.length, ListN.getD, ListN.set}
-use Rattle.base.specs.Words.{first}
+use Rattle.base.specs.Words.{first, byte}
 use Rattle.term.specs.{Term.Kind, Term.public, Term.private, Term.symmetric, Term.asymmetric, Term.left, Term.right, Term.pair, Term.hash, Term.encryption, Term.Head, Term.make, Term.part, Term.decrypt, Term.pick, Term.Relation, Term.equal, Term.inverses, Term.atomic, Term.atomKind, Number.shapeOf, Computed.kindOf, Term.Rec, Term.leaf, Term.branch, Code.ruleOf, Number.rules, Number.headOf}
 use Rattle.submission.specs.{Record.terms, Record.entries, Record.entryAt, Record.guess, Record.kindAt, Record.recordAt, Record.term, Code.KnownPart}
 use Rattle.machine.specs.declared.Node.{Node}
@@ -17,6 +17,7 @@ use Rattle.machine.specs.declared.Cipher.the-variants.{Symmetric, Asymme
 use Rattle.machine.specs.declared.Side.{Side}
 use Rattle.machine.specs.declared.Side.the-variants.{Left, Right}
 use Rattle.program.specs.Program.{Instruction, operand}
+use Rattle.machine.specs.Run.{held}
 
 -- ---- small enums
 abbrev pub sideOf : Side → words.Side
@@ -174,6 +175,13 @@ pub record TermNodes (s heads lefts rights : List ℕ) : Type 0 where
 pub record EntryRegisters (s registers : List ℕ) : Type 0 where
   pub long : length registers ≡ 256
   pub is : (i : ℕ) → i < entries s → getD registers i 0 ≡ entryAt s i
+
+-- ---- the registers' terms, with the right guess
+-- l has for each register of the program P, run with the right guess, the number of its term where that is listed, and else one that is not below T
+pub record RegisterNumbers (s P l : List ℕ) : Type 0 where
+  pub long : length l ≡ 256
+  pub listed : (r : ℕ) → r < entries s + 1 + byte P 0 → getD l r 0 < terms s → term s (getD l r 0) ≡ held s P r
+  pub unlisted : (r : ℕ) → r < entries s + 1 + byte P 0 → terms s ≤ getD l r 0 → (n : ℕ) → n < terms s → term s n ≡ held s P r → ⊥
 
 -- ---- stale names
 -- the atom of the guess's kind with this name

@@ -16,6 +16,10 @@ executed vs i = op (headOf (i .rule)) (getD vs (i .left) void) (getD vs (operand
 unfoldable pub registers : List ℕ → ℕ → List ℕ → ℕ → List Term
 registers s name P n = grow (initial s name) (λ vs i. executed vs (instructionAt P i)) n
 
+-- A6: "Each register's term is what the machine holds with the right guess": that of register r, after the program's instructions
+unfoldable pub held : List ℕ → List ℕ → ℕ → Term
+held s P r = getD (registers s (nameAt s (guess s)) P (byte P 0)) r void
+
 -- "`=` signals 1 for equal terms, `i` when the first is a key and the second its inverse, else 0"
 abbrev pub holds : Option Relation → Term → Term → Bool
 holds none a b = false
