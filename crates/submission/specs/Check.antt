@@ -9,13 +9,6 @@ use Rattle.submission.specs.Body.{contents}
 pub data Way : Type 0 where
   another-step at-start inverse-key guess-derived inverse-derived : Way
 
--- "way (letter a, b or c)"; A5: "Add way k", "Add way j"
-unfoldable pub wayOf : ℕ → Option Way
-wayOf l =
-    cond (eqb l 0x61) (some another-step)
-    (cond (eqb l 0x62) (some at-start)
-    (cond (eqb l 0x63) (some inverse-key) (cond (eqb l 0x6B) (some guess-derived) (cond (eqb l 0x6A) (some inverse-derived) none))))
-
 -- A5: what is derived, "the guess, or the inverse"
 pub data Target : Type 0 where
   the-guess its-inverse : Target
@@ -40,6 +33,8 @@ pub data Operand : Type 0 where
   given-register : Target → Operand
 
 pub record Row : Type 0 where
+  -- "way (letter a, b or c)"; A5: "Add way k", "Add way j"
+  pub letter : ℕ
   -- A5: in ways k and j "the guess doesn't count as known" and "Conditions 2 to 5 don't apply"
   pub claims : Claims
   -- "step or companion out of range (a: N, c: T, b: not 0)"; A5: "The companion is 0 in both."
@@ -56,15 +51,23 @@ pub record Row : Type 0 where
 
 abbrev pub row : Way → Row
 row another-step =
-    record { claims = verifier; step = step-number; companion = step-number; companionKept = true; relation = equal; tested = verifying-result; against = companion-result }
+    record { letter = 0x61; claims = verifier; step = step-number; companion = step-number; companionKept = true; relation = equal; tested = verifying-result; against = companion-result }
 row at-start =
-    record { claims = verifier; step = step-number; companion = zero-only; companionKept = false; relation = equal; tested = verifying-result; against = lowest-conclusion }
+    record { letter = 0x62; claims = verifier; step = step-number; companion = zero-only; companionKept = false; relation = equal; tested = verifying-result; against = lowest-conclusion }
 row inverse-key =
-    record { claims = verifier; step = step-number; companion = term-number; companionKept = false; relation = inverses; tested = verifying-result; against = lowest-companion }
+    record { letter = 0x63; claims = verifier; step = step-number; companion = term-number; companionKept = false; relation = inverses; tested = verifying-result; against = lowest-companion }
 row guess-derived =
-    record { claims = derived the-guess; step = step-or-knowledge; companion = zero-only; companionKept = false; relation = equal; tested = guess-register; against = given-register the-guess }
+    record { letter = 0x6B; claims = derived the-guess; step = step-or-knowledge; companion = zero-only; companionKept = false; relation = equal; tested = guess-register; against = given-register the-guess }
 row inverse-derived =
-    record { claims = derived its-inverse; step = step-or-knowledge; companion = zero-only; companionKept = false; relation = inverses; tested = guess-register; against = given-register its-inverse }
+    record { letter = 0x6A; claims = derived its-inverse; step = step-or-knowledge; companion = zero-only; companionKept = false; relation = inverses; tested = guess-register; against = given-register its-inverse }
+
+-- the way of a letter
+unfoldable pub wayOf : ℕ → Option Way
+wayOf l =
+    cond (eqb l (row another-step .letter)) (some another-step)
+    (cond (eqb l (row at-start .letter)) (some at-start)
+    (cond (eqb l (row inverse-key .letter)) (some inverse-key)
+    (cond (eqb l (row guess-derived .letter)) (some guess-derived) (cond (eqb l (row inverse-derived .letter)) (some inverse-derived) none))))
 
 -- what a submission claims; a way that is none, which check 5 refuses, reads as claiming a verifier
 abbrev pub claimsIn : Option Way → Claims

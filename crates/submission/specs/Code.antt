@@ -86,6 +86,7 @@ operandIs (GivenRegister t) = given-register (targetIs t)
 abbrev pub rowIs : RowRead → Row
 rowIs r =
     record {
+      letter = r .letter;
       claims = claimsIs (r .claims);
       step = rangeIs (r .step);
       companion = rangeIs (r .companion);

@@ -445,9 +445,10 @@ pub enum Operand {
     GivenRegister(Target),
 }
 
-// A way's row of the table: what is claimed, the ranges of the step and of the companion, whether the companion must undo nothing, and the
+// A way's row of the table: its letter, what is claimed, the ranges of the step and of the companion, whether the companion must undo nothing, and the
 // test.
 pub struct Row {
+    pub letter: u8,
     pub claims: Claims,
     pub step: Range,
     pub companion: Range,
@@ -462,6 +463,7 @@ pub fn row_of(way: Way) -> Row
 {
     match way {
         Way::AnotherStep => Row {
+            letter: b'a',
             claims: Claims::Verifier,
             step: Range::Step,
             companion: Range::Step,
@@ -471,6 +473,7 @@ pub fn row_of(way: Way) -> Row
             against: Operand::CompanionResult,
         },
         Way::AtStart => Row {
+            letter: b'b',
             claims: Claims::Verifier,
             step: Range::Step,
             companion: Range::Zero,
@@ -480,6 +483,7 @@ pub fn row_of(way: Way) -> Row
             against: Operand::LowestConclusion,
         },
         Way::InverseKey => Row {
+            letter: b'c',
             claims: Claims::Verifier,
             step: Range::Step,
             companion: Range::Term,
@@ -489,6 +493,7 @@ pub fn row_of(way: Way) -> Row
             against: Operand::LowestCompanion,
         },
         Way::GuessDerived => Row {
+            letter: b'k',
             claims: Claims::Derived(Target::Guess),
             step: Range::StepOrKnowledge,
             companion: Range::Zero,
@@ -498,6 +503,7 @@ pub fn row_of(way: Way) -> Row
             against: Operand::GivenRegister(Target::Guess),
         },
         Way::InverseDerived => Row {
+            letter: b'j',
             claims: Claims::Derived(Target::Inverse),
             step: Range::StepOrKnowledge,
             companion: Range::Zero,
