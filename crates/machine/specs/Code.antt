@@ -79,6 +79,10 @@ sameNode v w = eqb (v .head) (w .head) && (eqb (v .left) (w .left) && eqb (v .ri
 abbrev pub isNodeFrom : List ℕ → List ℕ → List ℕ → Node → ℕ → ℕ → Bool
 isNodeFrom heads lefts rights v from k = leb from k && sameNode (nodeOf heads lefts rights k) v
 
+-- the number of the node v, where it is one of the first n
+abbrev pub numberIn : List ℕ → List ℕ → List ℕ → ℕ → Node → Found
+numberIn heads lefts rights n v = foundOf (first (isNodeFrom heads lefts rights v 0) n)
+
 -- the first and the second part of one node
 unfoldable pub partsOfOne : Node → Node → Bool
 partsOfOne v w = eqb (v .head) (ruleOf (part left)) && (eqb (w .head) (ruleOf (part right)) && eqb (v .left) (w .left))
@@ -176,6 +180,15 @@ pub record EntryRegisters (s registers : List ℕ) : Type 0 where
   pub long : length registers ≡ 256
   pub is : (i : ℕ) → i < entries s → getD registers i 0 ≡ entryAt s i
 
+-- what a run starts with, where the guess's node is v: the terms' nodes and then v, which is found among them or not; the knowledge and then the number of v
+pub record Started (s : List ℕ) (v : Node) (found : Found) (heads lefts rights registers : List ℕ) : Type 0 where
+  pub arrays : NodeArrays heads lefts rights
+  pub nodes : TermNodes s heads lefts rights
+  pub last : nodeOf heads lefts rights (terms s) ≡ v
+  pub known : EntryRegisters s registers
+  pub number : getD registers (entries s) 0 ≡ numberOf found (terms s)
+  pub is : found ≡ numberIn heads lefts rights (terms s) v
+
 -- ---- the registers' terms, with the right guess
 -- l has for each register of the program P, run with the right guess, the number of its term where that is listed, and else one that is not below T
 pub record RegisterNumbers (s P l : List ℕ) : Type 0 where
@@ -194,10 +207,6 @@ inverseHead h = cond (eqb h (atomHead public)) (atomHead private) (cond (eqb h (
 
 abbrev pub inverseNode : Node → Node
 inverseNode v = record { head = inverseHead (v .head); left = v .left; right = v .right }
-
--- the number of the node v, where it is one of the first n
-abbrev pub numberIn : List ℕ → List ℕ → List ℕ → ℕ → Node → Found
-numberIn heads lefts rights n v = foundOf (first (isNodeFrom heads lefts rights v 0) n)
 
 -- the records of the nodes in the state's arrays
 abbrev pub recordsIn : List ℕ → List ℕ → List ℕ → ℕ → Rec

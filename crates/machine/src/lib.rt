@@ -17,7 +17,7 @@ ghost use lib.ListN.{length, getD};
 ghost use Rattle.base.specs.Words.{first};
 ghost use Rattle.term.specs.Term.{pick};
 ghost use Rattle.term.specs.Code.{relationIs, Below};
-ghost use Rattle.submission.specs.Record.{terms as termCount, recordAt};
+ghost use Rattle.submission.specs.Record.{terms as termCount, recordAt, guess as guessOf, nameAt};
 ghost use Rattle.submission.specs.Code.{SubmissionRead};
 ghost use Rattle.submission.specs.Code.{TableRead};
 ghost use mathlib.Core.Option.{some};
@@ -28,7 +28,7 @@ ghost use Rattle.base.specs.Answer.{answerOf, done};
 ghost use Rattle.base.specs.Computed.{failsIf, answered};
 ghost use Rattle.program.specs.Computed.{badProgram};
 ghost use Rattle.machine.specs.Computed.{isStaleName, runAnswer};
-ghost use Rattle.machine.specs.Code.{sideOf, cipherOf, nodeFor, nodeOf, operandsOf, sameNode, partsOfOne, inverseNodes, matchNodes, isNodeFrom, foundOf, orFound, joinedNode, partedNode, cancelledNode, Executable, Executed, numberOf, nodesWith, NodeArrays, TermNodes, EntryRegisters, guessNode, recordsIn, treated, PartMarks, isMarked, SomeMarked, inverseHead, inverseNode, numberIn, lowerOf, related};
+ghost use Rattle.machine.specs.Code.{sideOf, cipherOf, nodeFor, nodeOf, operandsOf, sameNode, partsOfOne, inverseNodes, matchNodes, isNodeFrom, foundOf, orFound, joinedNode, partedNode, cancelledNode, Executable, Executed, numberOf, nodesWith, NodeArrays, TermNodes, EntryRegisters, Started, RegisterNumbers, guessNode, recordsIn, treated, PartMarks, isMarked, SomeMarked, inverseHead, inverseNode, numberIn, lowerOf, related};
 
 // ---- Terms as nodes.
 
@@ -394,6 +394,43 @@ fn guess_node(s: &[u8], name: u16) -> Node
     }
 }
 
+// The name of the guess.
+fn right_name(s: &[u8]) -> u16
+    ensures { λ r. ⌜ r ≡ nameAt (now (s .entry)) (guessOf (now (s .entry))) ⌝ }
+{
+    let claim = submission::claim_bytes(s);
+    let guess = submission::term_at(s, claim.guess);
+    submission::name_of(guess)
+}
+
+// Puts the terms, and the guess's node v after them; the knowledge, and the number of v after it. Answers where v is among the terms.
+fn put_start(
+    s: &[u8],
+    v: Node,
+    heads: &mut [u8; 384],
+    lefts: &mut [u16; 384],
+    rights: &mut [u16; 384],
+    registers: &mut [u16; 256],
+) -> Found
+    requires { ⌜ SubmissionRead (now s) ⌝ }
+    requires { ⌜ NodeArrays (now heads) (now lefts) (now rights) ⌝ }
+    requires { ⌜ length (now registers) ≡ 256 ⌝ }
+    ensures { λ r. ⌜ Started (now (s .entry)) v r (now (heads .exit)) (now (lefts .exit)) (now (rights .exit)) (now (registers .exit)) ⌝ }
+{
+    put_terms(s, heads, lefts, rights);
+    put_knowledge(s, registers);
+    let terms = base::wide16(submission::terms(s));
+    let found = find(heads, lefts, rights, v, 0, terms);
+    // Where v is one of the terms, what is put after them is no node.
+    let k = index(terms);
+    heads[k] = v.head;
+    lefts[k] = v.left;
+    rights[k] = v.right;
+    let i = base::wide(submission::entries(s));
+    registers[i] = number_of(found, terms);
+    found
+}
+
 // ---- Stale names.
 
 // Marks the parts of node t, keys among them, where it is marked.
@@ -544,9 +581,7 @@ fn is_stale<'a>(
     requires { ⌜ n ≡ termCount (now s) ⌝ }
     ensures { λ r. ⌜ r ≡ isStaleName (now (s .entry)) (v .left) ⌝ }
 {
-    let claim = submission::claim_bytes(s);
-    let guess = submission::term_at(s, claim.guess);
-    if submission::name_of(guess) == v.left {
+    if right_name(s) == v.left {
         return false;
     }
     let other = find_inverse(heads, lefts, rights, v, found, n);
@@ -601,24 +636,16 @@ fn tried(s: &[u8], name: u16, program: &[u8], relation: Relation) -> Answer
     let mut lefts = [0u16; 384];
     let mut rights = [0u16; 384];
     let mut registers = [0u16; 256];
-    put_terms(s, &mut heads, &mut lefts, &mut rights);
-    put_knowledge(s, &mut registers);
-    let terms = base::wide16(submission::terms(s));
     let g = guess_node(s, name);
-    let found = find(&heads, &lefts, &rights, g, 0, terms);
+    let found = put_start(s, g, &mut heads, &mut lefts, &mut rights, &mut registers);
+    let terms = base::wide16(submission::terms(s));
     if is_stale(s, &heads, &lefts, &rights, g, found, terms) {
         return Answer::Refused {
             number: 15,
             place: 0,
         };
     }
-    // The guess goes after the terms: where it is one of them, what is put there is no node.
-    let k = index(terms);
-    heads[k] = g.head;
-    lefts[k] = g.left;
-    rights[k] = g.right;
     let entries = base::wide16(submission::entries(s));
-    registers[index(entries)] = number_of(found, terms);
     let mut m = Machine {
         heads,
         lefts,
@@ -651,4 +678,36 @@ pub fn run(s: &[u8], name: u16, program: &[u8]) -> Answer
         };
     };
     tried(s, name, program, relation)
+}
+
+// ---- The registers, with the right guess.
+
+// For each register of a program, run with the right guess, the number of its term where that is listed, and else a number that is not below T.
+pub fn register_numbers(s: &[u8], program: &[u8]) -> [u16; 256]
+    requires { ⌜ SubmissionRead (now s) ⌝ }
+    requires { ⌜ badProgram (now s) (now program) ≡ false ⌝ }
+    ensures { λ r. ⌜ RegisterNumbers (now (s .entry)) (now (program .entry)) r ⌝ }
+{
+    let mut heads = [0u8; 384];
+    let mut lefts = [0u16; 384];
+    let mut rights = [0u16; 384];
+    let mut registers = [0u16; 256];
+    let right = right_name(s);
+    let g = guess_node(s, right);
+    let found = put_start(s, g, &mut heads, &mut lefts, &mut rights, &mut registers);
+    let terms = base::wide16(submission::terms(s));
+    let entries = base::wide16(submission::entries(s));
+    let mut m = Machine {
+        heads,
+        lefts,
+        rights,
+        nodes: nodes_with(found, terms),
+        registers,
+        used: entries + 1,
+    };
+    let n = base::byte(program, 0);
+    for i in 0..n {
+        m = m.step(program::instruction_at(program, i));
+    }
+    m.registers
 }

@@ -4,14 +4,8 @@ use borrow.Author.Needs.{needs}
 use Rattle.machine.proofs.is_stale.Statement.{statement}
 use Rattle.machine.proofs.is_stale.Tie as tie
 
-claim-bytes-requires : tie.Need-claim-bytes-requires
-claim-bytes-requires c κs = search needs
-
-term-at-requires : tie.Need-term-at-requires
-term-at-requires c κs = search needs
-
-name-of-requires : tie.Need-name-of-requires
-name-of-requires c κs = search needs
+right-name-requires : tie.Need-right-name-requires
+right-name-requires c κs = search needs
 
 returns : tie.Need-returns
 returns c = search (own-name, needs)
@@ -35,17 +29,13 @@ is-known-part-requires : tie.Need-is-known-part-requires
 is-known-part-requires c κs = (search table-read, search needs)
 
 returns-3 : tie.Need-returns-3
-returns-3 c =
-    let pre = c .before .before .before .before .before .before .before .before .before .before .before .before .pre in
-    stale-marked _ (pre .0) (c .before .before .before .before .before .before .before .before .before .before .claim-bytes .ensures) (c .before .before .before .before .before .before .before .before .before .term-at .ensures) (c .before .before .before .before .before .before .before .before .name-of .ensures) (c .before .before .before .before .before .before .if1 .left) (pre .1 .0) (pre .1 .1 .0) (pre .1 .1 .1 .0) (pre .1 .1 .1 .1) (c .before .before .before .before .before .find-inverse .ensures) (c .before .before .before .before .number-of .ensures) (c .before .before .before .number-of2 .ensures) (c .before .before .lower-of .ensures) (c .is-known-part .ensures)
+returns-3 c = search stale-marked
 
 pub is-stale-spec : {M : Type 1} → statement M
 is-stale-spec =
     tie.close
     (tie.spec
-    claim-bytes-requires
-    term-at-requires
-    name-of-requires
+    right-name-requires
     returns
     find-inverse-requires
     number-of-requires

@@ -24,7 +24,7 @@ use Rattle.submission.proofs.theory.ListedTerms.{facts}
 use Rattle.base.proofs.Stores.{each-set}
 use Rattle.deduction.proofs.MarkArrays.{says-mark}
 use Rattle.machine.specs.Code.{atoms, recordFor, recordsIn, TermNodes, withParts, treated, PartMarks}
-use Rattle.machine.proofs.theory.NodeRecords.{record-node}
+use Rattle.machine.proofs.theory.NodeRecords.{term-record}
 
 -- ---- the returns of `mark_parts`
 module _ (rec : ℕ → Rec) (l : List ℕ) {t i : ℕ} (e : i ≡ t) where
@@ -146,11 +146,8 @@ module _ {s l : List ℕ} {i j : ℕ} (w : TableRead s) (p : PartsFrom s i l) (f
       go k a c u (no z) = all-keep (recordAt s k) (p .closed k (omega arith) c (old k (omega arith) u))
 
 module _ {s hs ls rs : List ℕ} (w : TableRead s) (z : TermNodes s hs ls rs) where
-  term-record : (k : ℕ) → k < terms s → recordsIn hs ls rs k ≡ recordAt s k
-  term-record k b = ap recordFor (z .is k b) ∙ record-node (recordAt s k)
-
   pub parts-fit : {lowest i j : ℕ} → lowest < i → i ≤ terms s → j ≡ i - 1 → Below 256 (recordsIn hs ls rs j)
-  parts-fit {lowest} {i} {j} a c e = let b : j < terms s = omega arith in subst (Below 256) (sym (term-record j b)) (go (recordAt s j) (facts w .table .earlier j b))
+  parts-fit {lowest} {i} {j} a c e = let b : j < terms s = omega arith in subst (Below 256) (sym (term-record z j b)) (go (recordAt s j) (facts w .table .earlier j b))
     where
       go : (r : Rec) → Below j r → Below 256 r
       go (leaf κ n) d = tt
@@ -160,7 +157,7 @@ module _ {s hs ls rs : List ℕ} (w : TableRead s) (z : TermNodes s hs ls rs) wh
   parts-more {l} {l′} {lowest} {i} {j} p a b e f = rw f (go (true-or-false (eqb (getD l j 0) 1)))
     where
       go : (eqb (getD l j 0) 1 ≡ true) ⊎ (eqb (getD l j 0) 1 ≡ false) → PartsFrom s j (treated (recordsIn hs ls rs) j l)
-      go (inl t) = rw t (parts-both w p (omega arith) (omega arith) (recordsIn hs ls rs j) (sym (term-record j (omega arith))) (eqb-true _ 1 t))
+      go (inl t) = rw t (parts-both w p (omega arith) (omega arith) (recordsIn hs ls rs j) (sym (term-record z j (omega arith))) (eqb-true _ 1 t))
       go (inr t) = rw t (parts-same w p (omega arith) (omega arith) (λ m. absurd (eqb-false _ 1 t m)))
 
 pub term-fits : {s : List ℕ} {lowest i j : ℕ} → TableRead s → lowest < i → i ≤ terms s → j ≡ i - 1 → j < 256

@@ -1,5 +1,6 @@
 -- Nodes and records, one for one; and the node of a term, by the term's head.
 use mathlib.Core.Path.{_≡_, refl, sym, ap, _∙_}
+use mathlib.Core.List.{List}
 use Prim.Native.Nat.{ℕ, _<_}
 use native.Mathlib.Omega.{arith}
 use borrow.Author.Tests.{lt-ltb}
@@ -8,8 +9,9 @@ use Rattle.term.specs.Number.{shapeOf}
 use Rattle.term.specs.Code.{ruleOf}
 use Rattle.term.proofs.Rule.{head-rule, rule-below}
 use Rattle.term.proofs.Table.{part-below, node-of, branch-of, leaf-of}
+use Rattle.submission.specs.Record.{terms, recordAt}
 use Rattle.machine.specs.declared.Machine.{Machine}
-use Rattle.machine.specs.Code.{atoms, atomHead, recordFor, nodeFor}
+use Rattle.machine.specs.Code.{atoms, atomHead, recordFor, nodeFor, recordsIn, TermNodes}
 use Rattle.machine.proofs.theory.StateMeaning.{nodeIn, nodeAt, termAt, SoundState}
 
 -- ---- nodes and records
@@ -27,6 +29,10 @@ atom-record private l r = refl
 pub record-node : (r : Rec) → recordFor (nodeFor r) ≡ r
 record-node (leaf κ n) = atom-record κ n 0
 record-node (branch h x y) = rule-record h x y
+
+-- the records of the terms' nodes
+pub term-record : {s hs ls rs : List ℕ} → TermNodes s hs ls rs → (k : ℕ) → k < terms s → recordsIn hs ls rs k ≡ recordAt s k
+term-record {s} z k b = ap recordFor (z .is k b) ∙ record-node (recordAt s k)
 
 -- ---- the node of a term
 module _ {m : Machine} (w : SoundState m) {a : ℕ} (l : a < m .nodes) where

@@ -59,6 +59,10 @@ pub record Absent (m : Machine) (v : Node) (from : ℕ) : Type 0 where
 pub nodes-more : (n : ℕ) {o : Found} → o ≡ Nothing → n + 1 ≡ nodesWith o n
 nodes-more n e = rw e
 
+pub nodes-many : (o : Found) (n : ℕ) → n ≤ nodesWith o n
+nodes-many (At k) n = omega arith
+nodes-many Nothing n = omega arith
+
 -- as the code writes it
 pub placed-so : {m : Machine} {v : Node} {o : Found} {n k i a b : ℕ} → m .nodes < length (m .heads) → m .nodes < length (m .lefts) → m .nodes < length (m .rights) → m .used < length (m .registers) →
     n ≡ m .nodes → k ≡ n → i ≡ m .used → a ≡ numberOf o n → b ≡ nodesWith o n →

@@ -1,15 +1,14 @@
--- A run: the instructions of a program that passes check 13, its test, and the answer.
+-- A run: the test of a program that passes check 13, and the answer.
 use mathlib.Core.Logic.{_↔_}
 use mathlib.Core.Path.{_≡_, refl, sym, ap, ap₂, _∙_}
 use mathlib.Core.Bool.{Bool, true, false, cond}
 use mathlib.Core.Option.{some}
-use mathlib.Core.List.{List, [], _∷_, _++_}
-use Prim.Native.Nat.{ℕ, _+_, _≤_, _<_}
-use native.Mathlib.Numerals.{add-one}
+use mathlib.Core.List.{List}
+use Prim.Native.Nat.{ℕ, _≤_, _<_}
 use native.Mathlib.Omega.{arith}
 use lib.Dec.{eqb}
 use lib.ListN.{getD}
-use Rattle.base.specs.Words.{grow, Bytes, byte}
+use Rattle.base.specs.Words.{Bytes, byte}
 use Rattle.base.specs.declared.Stage.{Stage}
 use Rattle.submission.specs.declared.Claim.{Claim}
 use Rattle.submission.specs.declared.Reading.{Reading}
@@ -31,47 +30,19 @@ use Rattle.term.specs.declared.Relation.{Relation as RelationGiven}
 use Rattle.term.specs.declared.Relation.the-variants.{Equal, Inverse}
 use Rattle.term.specs.Code.{relationIs}
 use Rattle.term.specs.Term.{Relation, equal, inverses}
-use Rattle.program.specs.Program.{relationOf, Instruction, instructionAt, testAt}
+use Rattle.program.specs.Program.{relationOf, Instruction, testAt}
 use Rattle.program.specs.Code.{relationIn, asked}
-use Rattle.program.proofs.theory.Check13.{right-fits, operand-fits, program-iff, program-good, program-bad}
-use Rattle.machine.specs.Run.{executed, registers, holds, signals, signal, StaleName, programRows, runRows}
+use Rattle.program.proofs.theory.Check13.{right-fits, program-iff, program-good, program-bad}
+use Rattle.machine.specs.Run.{registers, holds, signals, signal, StaleName, programRows, runRows}
 use Rattle.machine.specs.declared.Machine.{Machine}
-use Rattle.machine.specs.Code.{nodeOf, inverseNodes, Executable, Executed, guessNode, related}
-use Rattle.machine.proofs.theory.StateMeaning.{termAt, register, values, Gives, Applies, Running, Testable}
-use Rattle.machine.proofs.theory.InstructionResult.{value-at, applies-executable, executed-gives}
+use Rattle.machine.specs.Code.{nodeOf, inverseNodes, guessNode, related}
+use Rattle.machine.proofs.theory.StateMeaning.{termAt, register, values, Running, Testable}
+use Rattle.machine.proofs.theory.InstructionResult.{value-at}
 use Rattle.machine.proofs.theory.KeyNodes.{one-term, inverse-keys}
-use Rattle.machine.proofs.theory.StartState.{facts}
+use Rattle.machine.proofs.theory.RunLoop.{RunSoFar, run-all}
 use Rattle.submission.specs.Computed.{checks1to5}
 use Rattle.program.specs.Computed.{badProgram}
 use Rattle.machine.specs.Computed.{isStaleName, runAnswer}
-
--- ---- the instructions
-module _ {s P : List ℕ} {name i n : ℕ} {m : Machine} {x : Instruction} (w : SubmissionRead s) (g : badProgram s P ≡ false) (h : Running s name P i m) (l : i < n) (c : n ≡ byte P 0) (e : x ≡ instructionAt P i) where
-  instruction-applies : Applies m x
-  instruction-applies =
-      let z = program-iff s P .0 g in
-      let r = z .rules-right i (omega arith) in
-      let a = z .registers-right i (omega arith) .0 in
-      let b = operand-fits _ (instructionAt P i) (z .registers-right i (omega arith)) in
-      record {
-        sound = h .holds .sound;
-        rule = rw e r;
-        left = rw (e, h .used) a;
-        right = rw (e, h .used) b;
-        room = omega (arith, h .few, z .few);
-        space = omega (arith, h .used, z .few, facts w .read .entries-most);
-      }
-
-  running-more : {r : Machine} → Gives m (executed (values m) x) r → Running s name P (i + 1) r
-  unfolding registers grow
-  running-more d = record {
-    holds = record {
-      sound = d .holds .sound;
-      is = d .holds .is ∙ rw (add-one i) (ap₂ (λ vs j. vs ++ executed vs j ∷ []) (h .holds .is) e);
-    };
-    used = omega (arith, d .used, h .used);
-    few = omega (arith, d .few, h .few);
-  }
 
 -- ---- the test
 pub test-read : (regs : List ℕ) {p k : ℕ} → p ≡ k → getD regs k 0 < 384 → getD regs p 0 < 384
@@ -109,54 +80,27 @@ test-ready s P g h =
     record { sound = h .holds .sound; left = rw (h .used) (z .test-right .0); right = rw (h .used) (right-fits _ _ (testAt P) (z .test-right)); room = omega (arith, h .few, z .few) }
 
 -- ---- the loop of `tried`
--- the state m after i of the n instructions, of a name that is not stale
-pub record TriedSoFar (s : List ℕ) (name : ℕ) (P : List ℕ) (ρ : Relation) (n i : ℕ) (m : Machine) : Type 0 where
-  pub read : SubmissionRead s
-  pub good : badProgram s P ≡ false
+-- a test for this relation, and a name that is not stale
+pub record Tried (s : List ℕ) (name : ℕ) (P : List ℕ) (ρ : Relation) : Type 0 where
   pub asks : relationOf (testAt P .rule) ≡ some ρ
   pub fresh : isStaleName s name ≡ false
-  pub count : n ≡ byte P 0
-  pub within : i ≤ n
-  pub running : Running s name P i m
 
-module _ {s P : List ℕ} {name n i : ℕ} {ρ : Relation} {m : Machine} (h : TriedSoFar s name P ρ n i m) where
-  module _ {x : Instruction} (l : i < n) (e : x ≡ instructionAt P i) where
-    applies : Applies m x
-    applies = instruction-applies (h .read) (h .good) (h .running) l (h .count) e
+module _ {s P : List ℕ} {name n i : ℕ} {m : Machine} (h : RunSoFar s name P n i m) {t : Instruction} (l : n ≤ i) (e : t ≡ testAt P) where
+  ready : Testable m t
+  ready = rw e (test-ready s P (h .good) (run-all h l))
 
-    pub tried-executable : Executable m x
-    tried-executable = applies-executable applies
+  pub tried-left : register m (t .left) < 384
+  tried-left = omega (arith, left-below ready, ready .room)
 
-    pub tried-more : {r : Machine} → Executed m x r → TriedSoFar s name P ρ n (i + 1) r
-    tried-more d = record {
-      read = h .read;
-      good = h .good;
-      asks = h .asks;
-      fresh = h .fresh;
-      count = h .count;
-      within = omega arith;
-      running = running-more (h .read) (h .good) (h .running) l (h .count) e (executed-gives applies d);
-    }
+  pub tried-right : register m (t .right) < 384
+  tried-right = omega (arith, right-below ready, ready .room)
 
-  module _ {t : Instruction} (l : n ≤ i) (e : t ≡ testAt P) where
-    ran : Running s name P (byte P 0) m
-    ran = let q : i ≡ byte P 0 = omega (arith, h .within, h .count) in rw (← q) (h .running)
-
-    ready : Testable m t
-    ready = rw e (test-ready s P (h .good) ran)
-
-    pub tried-left : register m (t .left) < 384
-    tried-left = omega (arith, left-below ready, ready .room)
-
-    pub tried-right : register m (t .right) < 384
-    tried-right = omega (arith, right-below ready, ready .room)
-
-    pub tried-done : {r : ℕ} → r ≡ cond (related ρ (m .heads) (m .lefts) (m .rights) (register m (t .left)) (register m (t .right))) 1 0 →
-        done r ≡ answered (failsIf (isStaleName s name) 15 0) (done (signal s name P))
-    unfolding signal
-    tried-done k =
-        let z : signals (registers s name P (byte P 0)) (testAt P) ≡ signals (values m) t = ap₂ signals (sym (ran .holds .is)) (sym e) in
-        rw (h .fresh, k, z, tested ready ρ (ap (λ t. relationOf (t .rule)) e ∙ h .asks))
+  pub tried-done : {ρ : Relation} → Tried s name P ρ → {r : ℕ} → r ≡ cond (related ρ (m .heads) (m .lefts) (m .rights) (register m (t .left)) (register m (t .right))) 1 0 →
+      done r ≡ answered (failsIf (isStaleName s name) 15 0) (done (signal s name P))
+  unfolding signal
+  tried-done {ρ} v k =
+      let z : signals (registers s name P (byte P 0)) (testAt P) ≡ signals (values m) t = ap₂ signals (sym (run-all h l .holds .is)) (sym e) in
+      rw (v .fresh, k, z, tested ready ρ (ap (λ t. relationOf (t .rule)) e ∙ v .asks))
 
 -- ---- the answer
 module _ (s P : List ℕ) (name : ℕ) {rd : Reading} (e : ReadingIs s (checks1to5 s) rd) where
@@ -190,8 +134,8 @@ module _ (s P : List ℕ) (name : ℕ) {v : Node} (q : v ≡ guessNode s name) {
   tried-stale j = rw (named, j)
 
   -- before the first instruction
-  pub tried-none : {ρ : Relation} {n : ℕ} {m : Machine} → b ≡ false → SubmissionRead s → badProgram s P ≡ false → relationOf (testAt P .rule) ≡ some ρ → n ≡ byte P 0 → Running s name P 0 m → TriedSoFar s name P ρ n 0 m
-  tried-none j w g a c h = record { read = w; good = g; asks = a; fresh = named ∙ j; count = c; within = omega arith; running = h }
+  pub tried-none : {ρ : Relation} → b ≡ false → relationOf (testAt P .rule) ≡ some ρ → Tried s name P ρ
+  tried-none j a = record { asks = a; fresh = named ∙ j }
 
 -- ---- Demand 1, run
 pub says-stale-name : (s : List ℕ) (name : ℕ) → Says (isStaleName s name) (StaleName s name)

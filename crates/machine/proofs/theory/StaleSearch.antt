@@ -3,7 +3,7 @@ use mathlib.Core.Path.{_≡_, refl, sym, ap, _∙_, subst}
 use mathlib.Core.Logic.{_↔_, _⊎_, inl, inr, ⊎-elim, Iff·trans}
 use mathlib.Core.Bool.{Bool, true, false, true≢false, false≢true}
 use mathlib.Core.List.{List}
-use Prim.Native.Nat.{ℕ, _+_, _*_, _≤_, _<_}
+use Prim.Native.Nat.{ℕ, _≤_, _<_}
 use native.Mathlib.Omega.{arith}
 use lib.Dec.{eqb, leb}
 use lib.ListN.{length, getD, List·getD-eq-default}
@@ -14,10 +14,8 @@ use Rattle.base.proofs.Order.{lt-or-ge}
 use Rattle.base.proofs.Says.{Says, says-eqb, says-and, says-or, says-true, denies, same-test}
 use Rattle.term.specs.Term.{Kind, plain, public, private, otherKind, atom, inverse, leaf, message}
 use Rattle.term.proofs.Table.{leaf-of}
-use Rattle.submission.specs.declared.Term.{Term as TermRead}
-use Rattle.submission.specs.declared.ClaimBytes.{ClaimBytes}
 use Rattle.submission.specs.Record.{terms, guess, nameAt, recordAt, term, guessed}
-use Rattle.submission.specs.Code.{IsTerm, IsClaimBytes, SubmissionRead, KnownPart}
+use Rattle.submission.specs.Code.{SubmissionRead, KnownPart}
 use Rattle.submission.proofs.{PassedChecks.body-passes, theory.StaleTests.listed-part}
 use Rattle.submission.specs.Code.{TableRead}
 use Rattle.machine.specs.declared.Node.{Node}
@@ -135,10 +133,7 @@ table-read {s} w = record { bytes = w .bytes; passed = body-passes s (w .passed)
 pub terms-fit : {s : List ℕ} {n : ℕ} → SubmissionRead s → n ≡ terms s → n ≤ 384
 terms-fit w e = omega (arith, facts w .read .terms-most)
 
-module _ {s : List ℕ} (v : Node) (w : SubmissionRead s) {b : ClaimBytes} {g : TermRead} (o : IsClaimBytes s b) (e : IsTerm s (b .guess) g) {m : ℕ} (f : m ≡ g .x * 256 + g .y) where
-  own-is : m ≡ nameAt s (guess s)
-  own-is = f ∙ rw (e .x, e .y, o .guessed)
-
+module _ {s : List ℕ} (v : Node) (w : SubmissionRead s) {m : ℕ} (own-is : m ≡ nameAt s (guess s)) where
   pub own-name : m ≡ v .left → false ≡ isStaleName s (v .left)
   own-name h = sym (denies _ (says-stale-name s (v .left)) .1 (λ (d, _). d (sym h ∙ own-is)))
 

@@ -1,6 +1,6 @@
 -- The start of a run: the submission's terms as nodes, the knowledge and the guess in the first registers.
 use mathlib.Core.Path.{_≡_, refl, sym, ap, ap₂, _∙_, subst}
-use mathlib.Core.Bool.{Bool, true, false, cond, true≢false, false≢true}
+use mathlib.Core.Bool.{Bool, true, false, _&&_, cond, true≢false, false≢true}
 use mathlib.Core.List.{List, [], _∷_, _++_}
 use mathlib.Core.Option.{some}
 use Prim.Native.Nat.{ℕ, _+_, _*_, _≤_, _<_}
@@ -8,27 +8,30 @@ use native.Mathlib.Omega.{arith}
 use mir.Syntax.{w8}
 use mir.Val.{Fits}
 use lib.ListN.{length, getD, set, replicate, length-set, length-replicate}
-use lib.Seq.{getD-set-same, getD-set-other}
+use lib.Dec.{leb}
+use lib.Seq.{getD-set-same, getD-set-other, set-getD}
 use borrow.Author.Count.{below-more}
 use Rattle.base.specs.Words.{grow, listed}
 use Rattle.base.proofs.Grow.{grow-alike}
+use Rattle.base.proofs.First.{first-equal}
 use Rattle.term.specs.Term.{Kind, plain, public, private, Shape, atomic, compound, atomKind, atom, leaf, message, void, decoded}
 use Rattle.term.specs.{Number.shapeOf, Computed.kindOf}
 use Rattle.term.specs.Code.{isUnary, builderOf, Table}
 use Rattle.term.proofs.Kind.{shape-kind}
 use Rattle.submission.specs.declared.Term.{Term as TermRead}
 use Rattle.submission.specs.Record.{terms, entries, entryAt, guess, kindAt, nameAt, recordAt, term, guessed}
-use Rattle.submission.specs.Code.{IsTerm, SubmissionRead}
+use Rattle.submission.specs.declared.ClaimBytes.{ClaimBytes}
+use Rattle.submission.specs.Code.{IsTerm, IsClaimBytes, SubmissionRead}
 use Rattle.submission.proofs.theory.ListedTerms.{Claimed, claimed}
 use Rattle.machine.specs.declared.Node.{Node}
 use Rattle.machine.specs.declared.Found.{Found}
 use Rattle.machine.specs.Run.{initial, registers}
 use Rattle.machine.specs.declared.Machine.{Machine}
-use Rattle.machine.specs.Code.{atoms, atomHead, recordFor, nodeFor, nodeOf, NodeArrays, Placed, numberOf, nodesWith, TermNodes, EntryRegisters, guessNode, numberIn}
-use Rattle.machine.proofs.theory.StateMeaning.{stateOf, nodeAt, termAt, register, values, SoundState, Running}
-use Rattle.machine.proofs.theory.NodeRecords.{atom-record, record-node}
+use Rattle.machine.specs.Code.{atoms, atomHead, recordFor, nodeFor, nodeOf, sameNode, foundOf, NodeArrays, Placed, numberOf, nodesWith, TermNodes, EntryRegisters, Started, guessNode, numberIn}
+use Rattle.machine.proofs.theory.StateMeaning.{stateOf, nodeAt, termAt, register, values, SoundState, HasTerms, Running}
+use Rattle.machine.proofs.theory.NodeRecords.{atom-record, term-record}
 use Rattle.machine.proofs.theory.StateGrowth.{decoded-alike, put-other, put-same, Fit}
-use Rattle.machine.proofs.theory.NodeSearch.{Absent, placed-so, placed-gives}
+use Rattle.machine.proofs.theory.NodeSearch.{Absent, nodes-many, placed-gives}
 use Rattle.term.specs.Computed.{isAtomic}
 
 -- what holds of the terms, and of the claim, after checks 1 to 5
@@ -138,6 +141,9 @@ module _ {s : List ℕ} {g : ℕ} {z : TermRead} (w : SubmissionRead s) (e : IsT
   pub guess-node : (name : ℕ) → record { head = atoms + z .kind; left = name; right = 0 } ≡ guessNode s name
   guess-node name = rw guess-is
 
+pub guess-name : {s : List ℕ} {b : ClaimBytes} {z : TermRead} {m : ℕ} → IsClaimBytes s b → IsTerm s (b .guess) z → m ≡ z .x * 256 + z .y → m ≡ nameAt s (guess s)
+guess-name o e f = f ∙ rw (e .x, e .y, o .guessed)
+
 -- the node of the atom of a kind with a name, and that of the guess
 abbrev pub atomNode : Kind → ℕ → Node
 atomNode κ name = record { head = atomHead κ; left = name; right = 0 }
@@ -150,11 +156,8 @@ module _ {s hs ls rs regs : List ℕ} (w : SubmissionRead s) (f : TermNodes s hs
   abbrev loaded : Machine
   loaded = stateOf hs ls rs (terms s) regs (entries s)
 
-  record-at : (k : ℕ) → k < terms s → nodeAt loaded k ≡ recordAt s k
-  record-at k b = ap recordFor (f .is k b) ∙ record-node (recordAt s k)
-
   same-terms : decoded (nodeAt loaded) (terms s) ≡ decoded (recordAt s) (terms s)
-  same-terms = decoded-alike (nodeAt loaded) (recordAt s) (terms s) record-at
+  same-terms = decoded-alike (nodeAt loaded) (recordAt s) (terms s) (term-record f)
 
   terms-held : (k : ℕ) → termAt loaded k ≡ term s k
   unfolding termAt term
@@ -164,11 +167,11 @@ module _ {s hs ls rs regs : List ℕ} (w : SubmissionRead s) (f : TermNodes s hs
   unfolding termAt term
   loaded-sound = record {
     table = subst (λ ts. Table (nodeAt loaded) (terms s) (λ k. getD ts k void)) (sym same-terms) (record {
-      reads = λ k b. facts w .read .table .reads k b ∙ ap (message (term s)) (sym (record-at k b));
-      earlier = λ k b. rw (record-at k b) (facts w .read .table .earlier k b);
-      distinct = λ j k b c e. facts w .read .table .distinct j k b c (sym (record-at j b) ∙ e ∙ record-at k c);
+      reads = λ k b. facts w .read .table .reads k b ∙ ap (message (term s)) (sym (term-record f k b));
+      earlier = λ k b. rw (term-record f k b) (facts w .read .table .earlier k b);
+      distinct = λ j k b c e. facts w .read .table .distinct j k b c (sym (term-record f j b) ∙ e ∙ term-record f k c);
     });
-    canonical = λ k b. ap nodeFor (record-at k b) ∙ sym (f .is k b);
+    canonical = λ k b. ap nodeFor (term-record f k b) ∙ sym (f .is k b);
     written = λ r b. rw (g .is r b) (facts w .read .entry-below r b);
   }
 
@@ -200,25 +203,50 @@ module _ {s hs ls rs regs : List ℕ} (w : SubmissionRead s) (f : TermNodes s hs
           few = omega (arith, d .few, facts w .read .terms-most);
         }
 
-    -- as the code writes it
-    pub guess-put : (P : List ℕ) → NodeArrays hs ls rs → {n u k i a b : ℕ} {o : Found} → n ≡ terms s → u ≡ entries s → o ≡ numberIn hs ls rs n v → k ≡ n → i ≡ u → a ≡ numberOf o n → b ≡ nodesWith o n →
-        Running s name P 0 (stateOf (set hs k (v .head)) (set ls k (v .left)) (set rs k (v .right)) b (set regs i a) (u + 1))
-    guess-put P arrays {n} {u} {o = o} c d e x y z t =
-        let room : n < 384 = omega (arith, facts w .read .terms-most) in
-        let space : u < 256 = omega (arith, facts w .read .entries-most) in
-        guess-started P c d e
-        (placed-so {m = stateOf hs ls rs n regs u} {v = v} {o = o} (rw (arrays .heads) room) (rw (arrays .lefts) room) (rw (arrays .rights) room) (rw (g .long) space) refl x y z t)
+-- a search does not see what is put after the nodes that it looks at
+search-behind : (hs ls rs : List ℕ) (n : ℕ) (v : Node) → numberIn hs ls rs n v ≡ numberIn (set hs n (v .head)) (set ls n (v .left)) (set rs n (v .right)) n v
+search-behind hs ls rs n v = ap foundOf (first-equal _ _ n (λ k b. ap (λ z. leb 0 k && sameNode z v) (sym (put-other hs ls rs n v k (λ e. omega arith)))))
 
--- there is room for it
-module _ {s : List ℕ} {n k : ℕ} (w : SubmissionRead s) (e : n ≡ k) where
-  pub guess-room : k ≡ terms s → n < 384
-  guess-room f = omega (arith, facts w .read .terms-most)
+-- as the code writes it
+module _ {s hs ls rs regs : List ℕ} (w : SubmissionRead s) (f : TermNodes s hs ls rs) (arrays : NodeArrays hs ls rs) (g : EntryRegisters s regs) {v : Node} {n t u : ℕ} (b : n ≡ t) (c : t ≡ terms s) (d : u ≡ entries s) where
+  pub start-put : {k i a : ℕ} {o : Found} → o ≡ numberIn hs ls rs n v → k ≡ n → i ≡ u → a ≡ numberOf o n → Started s v o (set hs k (v .head)) (set ls k (v .left)) (set rs k (v .right)) (set regs i a)
+  start-put {o = o} e x y z =
+      let room : terms s < 384 = omega (arith, facts w .read .terms-most) in
+      let space : entries s < 256 = omega (arith, facts w .read .entries-most) in
+      rw (x, y, z, b, c, d) (record {
+        arrays = record { heads = simp length-set (arrays .heads); lefts = simp length-set (arrays .lefts); rights = simp length-set (arrays .rights) };
+        nodes = record { is = λ k b. put-other hs ls rs (terms s) v k (λ e. omega arith) ∙ f .is k b };
+        last = put-same hs ls rs (terms s) v (rw (arrays .heads) room) (rw (arrays .lefts) room) (rw (arrays .rights) room);
+        known = record { long = simp length-set (g .long); is = λ i b. getD-set-other regs (entries s) i (numberOf o (terms s)) 0 (λ e. omega arith) ∙ g .is i b };
+        number = getD-set-same regs (entries s) (numberOf o (terms s)) 0 (rw (g .long) space);
+        is = (rw (b, c) at e) ∙ search-behind hs ls rs (terms s) v;
+      })
 
-  pub guess-within : k ≡ terms s → n ≤ 384
-  guess-within f = omega (arith, facts w .read .terms-most)
+pub start-found : {s hs ls rs regs : List ℕ} {v : Node} {o : Found} {n t : ℕ} → Started s v o hs ls rs regs → n ≡ t → t ≡ terms s → o ≡ numberIn hs ls rs n v
+start-found z b c = rw (b, c) (z .is)
 
-  pub guess-space : k ≡ entries s → n < 256
-  guess-space f = omega (arith, facts w .read .entries-most)
+-- what is there already
+put-there : (l : List ℕ) (k : ℕ) {x : ℕ} → getD l k 0 ≡ x → l ≡ set l k x
+put-there l k e = sym (ap (set l k) (sym e) ∙ set-getD l k 0)
+
+same-state : {hs hs′ ls ls′ rs rs′ regs regs′ : List ℕ} {n n′ u u′ : ℕ} → hs ≡ hs′ → ls ≡ ls′ → rs ≡ rs′ → n ≡ n′ → regs ≡ regs′ → u ≡ u′ → stateOf hs ls rs n regs u ≡ stateOf hs′ ls′ rs′ n′ regs′ u′
+same-state a b c d e f = rw (a, b, c, d, e, f)
+
+-- a run starts so
+module _ {s hs ls rs regs : List ℕ} {v : Node} {o : Found} {n u b : ℕ} (w : SubmissionRead s) (z : Started s v o hs ls rs regs) (c : n ≡ terms s) (d : u ≡ entries s) (t : b ≡ nodesWith o n) where
+  pub start-running : (P : List ℕ) (name : ℕ) → v ≡ guessNode s name → Running s name P 0 (stateOf hs ls rs b regs (u + 1))
+  start-running P name q =
+      let room : terms s < 384 = omega (arith, facts w .read .terms-most) in
+      let space : entries s < 256 = omega (arith, facts w .read .entries-most) in
+      guess-started w (z .nodes) (z .known) name q P refl refl (z .is) (record {
+        room = record { heads = rw (z .arrays .heads) room; lefts = rw (z .arrays .lefts) room; rights = rw (z .arrays .rights) room };
+        space = rw (z .known .long) space;
+        is = same-state (put-there hs (terms s) (ap (λ x. x .head) (z .last))) (put-there ls (terms s) (ap (λ x. x .left) (z .last))) (put-there rs (terms s) (ap (λ x. x .right) (z .last)))
+            (t ∙ ap (nodesWith o) c) (put-there regs (entries s) (z .number)) (ap (λ x. x + 1) d);
+      })
+
+  pub start-terms : HasTerms s (stateOf hs ls rs b regs (u + 1))
+  start-terms = record { nodes = z .nodes; many = rw (t, c) (nodes-many o (terms s)) }
 
 -- the guess's node has the name
 pub guess-left : (s : List ℕ) {v : Node} (name : ℕ) → v ≡ guessNode s name → v ≡ guessNode s (v .left)

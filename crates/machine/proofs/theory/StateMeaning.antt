@@ -4,13 +4,13 @@ use Prim.Native.Nat.{ℕ, _+_, _≤_, _<_}
 use lib.ListN.{getD, set}
 use Rattle.base.specs.Words.{listed}
 use Rattle.term.specs.{Term.Term, Term.Rec, Term.decoded, Term.void, Code.Table, Number.rules}
-use Rattle.submission.specs.Record.{entries}
+use Rattle.submission.specs.Record.{terms, entries}
 use Rattle.program.specs.Program.{Instruction, operand}
 use Rattle.machine.specs.declared.Node.{Node}
 use Rattle.machine.specs.declared.Operands.{Operands}
 use Rattle.machine.specs.Run.{registers}
 use Rattle.machine.specs.declared.Machine.{Machine}
-use Rattle.machine.specs.Code.{recordFor, nodeFor, nodeOf, operandsOf}
+use Rattle.machine.specs.Code.{recordFor, nodeFor, nodeOf, operandsOf, TermNodes}
 
 abbrev pub stateOf : List ℕ → List ℕ → List ℕ → ℕ → List ℕ → ℕ → Machine
 stateOf heads lefts rights nodes registers used = record { heads = heads; lefts = lefts; rights = rights; nodes = nodes; registers = registers; used = used }
@@ -65,6 +65,11 @@ pub record Applies (m : Machine) (i : Instruction) : Type 0 where
   pub right : operand i < m .used
   pub room : m .nodes < 384
   pub space : m .used < 256
+
+-- the first nodes of the state m are the terms'
+pub record HasTerms (s : List ℕ) (m : Machine) : Type 0 where
+  pub nodes : TermNodes s (m .heads) (m .lefts) (m .rights)
+  pub many : terms s ≤ m .nodes
 
 -- the state m holds the registers' values after n instructions
 pub record Running (s : List ℕ) (name : ℕ) (P : List ℕ) (n : ℕ) (m : Machine) : Type 0 where
