@@ -404,6 +404,7 @@ fn right_name(s: &[u8]) -> u16
 }
 
 // Puts the terms, and the guess's node v after them; the knowledge, and the number of v after it. Answers where v is among the terms.
+// It puts them into lent arrays, since a state that is handed on by value is copied.
 fn put_start(
     s: &[u8],
     v: Node,
@@ -625,7 +626,7 @@ fn signal<'a>(
     }
 }
 
-// Check 15, and then the signal. The start is written into lent arrays, since a state that is handed on by value is copied.
+// Check 15, and then the signal.
 fn tried(s: &[u8], name: u16, program: &[u8], relation: Relation) -> Answer
     requires { ⌜ SubmissionRead (now s) ⌝ }
     requires { ⌜ badProgram (now s) (now program) ≡ false ⌝ }
