@@ -44,6 +44,9 @@ puts-then {a} {b} {c} {xs} {ys} {i} {j} {k} p q =
       place = omega arith;
     }
 
+pub puts-four : {p0 p1 p2 p3 p4 : List ℕ} {i0 i1 i2 i3 i4 a b c d : ℕ} → Puts p0 i0 (a ∷ []) p1 i1 → Puts p1 i1 (b ∷ []) p2 i2 → Puts p2 i2 (c ∷ []) p3 i3 → Puts p3 i3 (d ∷ []) p4 i4 → Puts p0 i0 (a ∷ b ∷ c ∷ d ∷ []) p4 i4
+puts-four l0 l1 l2 l3 = puts-then (puts-then (puts-then l0 l1) l2) l3
+
 -- a text put at the front, in a buffer of any length: what there is room for, and then the buffer's own rest
 pub puts-front : {a b text : List ℕ} {k : ℕ} → Puts a 0 text b k → b ≡ take (length a) text ++ drop (length text) a
 puts-front {a} {b} {text} p =

@@ -74,6 +74,16 @@ pub fn put(out: &mut [u8], at: usize, b: u8) -> usize
     at
 }
 
+// Stores four bytes from this place on.
+pub fn put_four(out: &mut [u8], at: usize, a: u8, b: u8, c: u8, d: u8) -> usize
+    ensures { λ r. ⌜ Puts (now (out .entry)) at (a ∷ b ∷ c ∷ d ∷ []) (now (out .exit)) r ⌝ }
+{
+    let at = put(out, at, a);
+    let at = put(out, at, b);
+    let at = put(out, at, c);
+    put(out, at, d)
+}
+
 // Stores the first n bytes from this place on.
 fn copy(out: &mut [u8], from: usize, bytes: &[u8], n: usize)
     requires { ⌜ n ≤ length (now bytes) ⌝ }

@@ -3,6 +3,7 @@ use Rattle.base.specs.{Words._≡_, Words.List, Words.ℕ, Words._+_, Words._*_
 use Rattle.submission.specs.{Record.entries, Body.Bodies, Body.submissionOf}
 use Rattle.form.specs.Computed.{writeAnswer}
 use Rattle.inverse.specs.Computed.{inversesOf, inversesAnswer}
+use Rattle.readback.specs.{ReadBack.bodiesRead, Computed.readBackAnswer}
 use Rattle.text.specs.Text.{answerText}
 use Rattle.program.specs.Program.{bytesOf}
 use Rattle.conditions.specs.{Calls.program, Computed.checkAnswer}
@@ -23,6 +24,10 @@ EncodedForm b page r page′ = Writes (λ a. r ≡ encoded a) (writeAnswer b (le
 -- `checker_inverses`: the number r is the answer, and the page is that of the inverses
 abbrev pub EncodedInverses : List ℕ → List ℕ → ℕ → List ℕ → Type 0
 EncodedInverses s page r page′ = Writes (λ a. r ≡ encoded a) (inversesAnswer s (length page)) (inversesOf s) page page′
+
+-- `checker_read_back`: the number r is the answer, and the page is that of reading back
+abbrev pub EncodedBodies : List ℕ → List ℕ → List ℕ → ℕ → List ℕ → Type 0
+EncodedBodies s P page r page′ = Writes (λ a. r ≡ encoded a) (readBackAnswer s P (length page)) (bodiesRead s P) page page′
 
 -- what the program `verdict` prints of a submission, "with a page of 388 bytes": document 01, after 'Marked examples'
 unfoldable pub verdictText : List ℕ → List ℕ

@@ -5,7 +5,7 @@ ghost use Rattle.base.specs.Answer.{answerOf};
 ghost use Rattle.submission.specs.Body.{bodies};
 ghost use Rattle.deduction.specs.Computed.{deducibleAnswer};
 ghost use Rattle.machine.specs.Computed.{runAnswer};
-ghost use Rattle.checker.specs.Calls.{encoded, Encoded, EncodedForm, EncodedInverses};
+ghost use Rattle.checker.specs.Calls.{encoded, Encoded, EncodedForm, EncodedInverses, EncodedBodies};
 
 // An answer as one number.
 fn encode(answer: Answer) -> u32
@@ -57,4 +57,11 @@ pub extern "C" fn checker_inverses(sub: &[u8], page: &mut [u8]) -> u32
     ensures { λ r. ⌜ EncodedInverses (now (sub .entry)) (now (page .entry)) r (now (page .exit)) ⌝ }
 {
     encode(inverse::inverses(sub, page))
+}
+
+#[no_mangle]
+pub extern "C" fn checker_read_back(sub: &[u8], program: &[u8], page: &mut [u8]) -> u32
+    ensures { λ r. ⌜ EncodedBodies (now (sub .entry)) (now (program .entry)) (now (page .entry)) r (now (page .exit)) ⌝ }
+{
+    encode(readback::read_back(sub, program, page))
 }

@@ -22,9 +22,6 @@ use Rattle.form.proofs.theory.WritableBodies.{submission-length, writab
 
 -- ---- the bytes
 module _ {p0 p1 p2 p3 p4 : List ℕ} {i0 i1 i2 i3 i4 : ℕ} where
-  pub contents-entry-put : {a b c d : ℕ} → Puts p0 i0 (a ∷ []) p1 i1 → Puts p1 i1 (b ∷ []) p2 i2 → Puts p2 i2 (c ∷ []) p3 i3 → Puts p3 i3 (d ∷ []) p4 i4 → Puts p0 i0 (a ∷ b ∷ c ∷ d ∷ []) p4 i4
-  contents-entry-put l0 l1 l2 l3 = puts-then (puts-then (puts-then l0 l1) l2) l3
-
   -- each body starts where the former ends
   pub contents-put : (t k d c : List ℕ) → Writable (bodies t k d c) →
       Puts p0 i0 (0x54 ∷ length t / 3 ∷ 16 / 256 ∷ 16 % 256 ∷ []) p1 i1 →

@@ -3,8 +3,8 @@
 use base::Answer;
 use base::Stage;
 use base::answered_by;
-use base::put;
 use base::put_bytes;
+use base::put_four;
 use submission::CLAIM_WIDTH;
 use submission::CONTENTS_SIZE;
 use submission::ENTRY_WIDTH;
@@ -59,10 +59,14 @@ fn put_contents_entry(page: &mut [u8], at: usize, letter: u8, count: usize, star
     requires { ⌜ start < 65536 ⌝ }
     ensures { λ r. ⌜ Puts (now (page .entry)) at (letter ∷ count ∷ start / 256 ∷ start % 256 ∷ []) (now (page .exit)) r ⌝ }
 {
-    let at = put(page, at, letter);
-    let at = put(page, at, count as u8);
-    let at = put(page, at, (start / 256) as u8);
-    put(page, at, (start % 256) as u8)
+    put_four(
+        page,
+        at,
+        letter,
+        count as u8,
+        (start / 256) as u8,
+        (start % 256) as u8,
+    )
 }
 
 // The contents of whole bodies within their limits: each body starts where the former ends.

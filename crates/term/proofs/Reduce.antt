@@ -5,7 +5,7 @@ use mathlib.Core.Bool.{false≢true, true, false}
 use native.Mathlib.Omega.{arith}
 use Prim.Native.Nat.{ℕ}
 use Rattle.base.proofs.Says.{Says}
-use Rattle.term.specs.{Term.Kind, Term.plain, Term.public, Term.private, Term.Cipher, Term.symmetric, Term.asymmetric, Term.Side, Term.left, Term.right, Term.Form, Term.pair, Term.hash, Term.encryption, Term.Head, Term.make, Term.part, Term.decrypt, Term.Term, Term.atom, Term.node, Computed.term?, Computed.head?, Term.isKey, Term.inverse, Term.Match, Term.Part}
+use Rattle.term.specs.{Term.Kind, Term.plain, Term.public, Term.private, Term.Cipher, Term.symmetric, Term.asymmetric, Term.Side, Term.left, Term.right, Term.Form, Term.pair, Term.hash, Term.encryption, Term.Head, Term.make, Term.part, Term.decrypt, Term.Term, Term.atom, Term.node, Term.single, Computed.term?, Computed.head?, Term.isKey, Term.inverse, Term.Match, Term.Part}
 use Rattle.base.specs.Words.{ite}
 use Rattle.term.specs.Code.{Message}
 use Rattle.term.specs.Computed.{match?}
@@ -136,6 +136,23 @@ step-message (part i) p q t s f g =
     let (b, x, y) = subst Message (s .0 .2) f in
     subst Message (sym (s .0 .3)) (picked Message i x y)
 step-message (decrypt c) p q t s f g = (subst Message (s .1) f) .1
+
+-- and where it gives a message over messages, it did what the rule says; a head with one operand has it twice
+reduced-step : (h : Head) (a b r : Term) → Reduces h a b r → Message a → (single h ≡ true → b ≡ a) → Step h a b r
+reduced-step (make f) a b r u m o = absurd (message-unreduced f a b r m u)
+reduced-step (part s) a b r u m o = (u, o refl)
+reduced-step (decrypt c) a b r u m o = u
+
+formed-step : (h : Head) (a b : Term) → Message (node h a b) → Step h a b (node h a b)
+formed-step (make f) a b m = (m .0, refl)
+formed-step (part s) a b m = absurd (m .0)
+formed-step (decrypt c) a b m = absurd (m .0)
+
+pub op-step : (h : Head) (a b : Term) → Message a → Message (op h a b) → (single h ≡ true → b ≡ a) → Step h a b (op h a b)
+op-step h a b m n o = ⊎-elim
+    (λ (r, u, e). subst (Step h a b) (sym e) (reduced-step h a b r u m o))
+    (λ e. subst (Step h a b) (sym e) (formed-step h a b (subst Message e n)))
+    (op-cases h a b)
 
 -- a step's rule and premises determine its conclusion
 pub step-det : (h : Head) (p q t u : Term) → Step h p q t → Step h p q u → t ≡ u

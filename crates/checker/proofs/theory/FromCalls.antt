@@ -1,11 +1,11 @@
--- The demands, and the promises of A1, A4 and A5, from what the calls themselves return: a verdict or an answer, and the page after the call.
-use mathlib.Core.Path.{_≡_, refl, sym, ap, _∙_, subst}
+-- The demands, and the promises of A1, A4, A5 and A6, from what the calls themselves return: a verdict or an answer, and the page after the call.
+use mathlib.Core.Path.{_≡_, refl, sym, ap, ap₂, _∙_, subst}
 use mathlib.Core.Logic.{_↔_, _⊎_, inl, inr, ⊎-elim, Iff·trans}
-use mathlib.Core.List.{List, [], _∷_}
-use Prim.Native.Nat.{ℕ, _<_, _≤_}
+use mathlib.Core.List.{List, [], _∷_, _++_, append-assoc}
+use Prim.Native.Nat.{ℕ, _*_, _<_, _≤_}
 use native.Mathlib.Omega.{arith}
 use lib.ListN.{length, take, drop}
-use lib.Seq.{take-append-seam, drop-append-seam, getD-take}
+use lib.Seq.{take-append-seam, drop-append-seam, take-at, drop-at, getD-take}
 use Rattle.base.specs.declared.Answer.{Answer as AnswerGiven}
 use Rattle.base.specs.declared.Answer.the-variants as given
 use Rattle.base.specs.Answer.{Answer, done, refused, pageAfter, Writes, Clear, Refuses, answerOf, row11}
@@ -15,25 +15,28 @@ use Rattle.base.proofs.Says.{true-or-false, denies}
 use Rattle.base.proofs.RefusalLaws.{SomeHolds, refuses-some, Numbers, some-number, both-numbers, clear-split}
 use Rattle.term.specs.{Term.asymmetric, Term.Match, Term.Stale, Step.Deducible}
 use Rattle.submission.specs.Record.{terms, steps, guess, nameAt, term, InKnowledge, guessed}
-use Rattle.submission.specs.{Body.Bodies, Body.bodiesOf, Body.submissionOf, Check.Target, Check.Claims, Check.verifier, Check.derived, Check.claims, Check.rows1and2, Check.rows1to4}
+use Rattle.submission.specs.{Body.Bodies, Body.bodies, Body.bodyAt, Body.bodiesOf, Body.submissionOf, Check.Target, Check.Claims, Check.verifier, Check.derived, Check.claims, Check.rows1and2, Check.rows1to4}
 use Rattle.form.specs.{Write.writeRows, Write.ReadsAs, Computed.writeAnswer, Calls.FormWritten}
-use Rattle.form.proofs.theory.{WriteAnswer.write-exact, RoundTrip.form-promise}
+use Rattle.form.proofs.theory.{WriteAnswer.write-exact, RoundTrip.form-promise, RoundTrip.body-length}
 use Rattle.inverse.specs.{Inverse.inversesRows, Inverse.InverseListed, Computed.inversesOf, Calls.InversesWritten}
 use Rattle.inverse.proofs.theory.InversesAnswer.{inverses-exact, inverses-promise}
 use Rattle.deduction.specs.{Deduce.deducibleRows, Computed.deducibleAnswer}
 use Rattle.deduction.proofs.theory.DeducibleAnswer.{deducible-exact, yes-exact, no-exact}
 use Rattle.program.specs.Program.{bytesOf, programLength}
-use Rattle.machine.specs.{Run.StaleName, Run.programRows, Run.runRows, Run.signal, Computed.isStaleName, Computed.runAnswer}
+use Rattle.derivation.specs.Step.{concluded, StepFits}
+use Rattle.machine.specs.{Run.held, Run.StaleName, Run.programRows, Run.runRows, Run.signal, Computed.isStaleName, Computed.runAnswer}
 use Rattle.machine.proofs.theory.{RunAnswer.says-stale-name, RunAnswer.run-exact, StaleNames.stale-exact, StaleNames.taken-clear, StaleNames.taken-fresh}
 use Rattle.conditions.specs.declared.Verdict.{Verdict}
 use Rattle.conditions.specs.declared.Verdict.the-variants.{Accepted, Refused}
 use Rattle.conditions.specs.{Calls.verdictAnswer, Calls.Checked, Calls.program, Condition.WellFormed, Condition.target, Condition.FiveConditions, Condition.claimRows, Condition.checkRows, Demand.WrongGuess, Demand.KeptPromise}
 use Rattle.conditions.proofs.theory.{Acceptance.accepted-iff, KnownGuess.target-deducible, KnownGuess.guess-hidden, Promise.demand-3, Refusal.check-exact}
 use Rattle.conditions.specs.Computed.{checkAnswer}
+use Rattle.readback.specs.{ReadBack.resultOf, ReadBack.derivationRead, ReadBack.claimRead, ReadBack.bodiesRead, ReadBack.bodiesLength, ReadBack.readBackRows, Computed.readBackAnswer, Promise.replaced, Calls.BodiesWritten}
+use Rattle.readback.proofs.theory.{ReadBackAnswer.read-back-exact, RoundTrip.read-back-promise}
 use Rattle.checker.specs.Demand.{Demand1}
 
 pub demand-1 : Demand1
-demand-1 = record { check = check-exact; deducible = deducible-exact; run = run-exact; write = write-exact; inverses = inverses-exact }
+demand-1 = record { check = check-exact; deducible = deducible-exact; run = run-exact; write = write-exact; inverses = inverses-exact; readBack = read-back-exact }
 
 -- a verdict and an answer tell what they stand for
 same-verdict : (v u : Verdict) → verdictAnswer v ≡ verdictAnswer u → v ≡ u
@@ -228,3 +231,77 @@ module _ (s page page′ : List ℕ) (r : AnswerGiven) (bytes : Bytes s) (call :
         let l′ : k < terms s = omega arith in
         let f : byte page′ k ≡ byte (inversesOf s) k = sym (getD-take n page′ k 0 l) ∙ ap (λ x. byte x k) (inverses-stands .0) in
         rw f ((λ j m. inverses-promise .listed s bytes d k l′ j (omega arith)), inverses-promise .none s bytes d k l′)
+
+-- ---- a call of `read_back` on s, the program P and page that returned r and left page′
+module _ (s P page page′ : List ℕ) (r : AnswerGiven) (bytes : Bytes s) (call : BodiesWritten s P page r page′) where
+  pub read-back-refuses : (n p : ℕ) → (r ≡ given.Refused n p) ↔ Refuses (readBackRows s P (length page)) n p
+  read-back-refuses n p = Iff·trans (returned r (given.Refused n p) (call .answer)) (read-back-exact s P bytes (length page) (refused n p))
+
+  pub read-back-leaves : (n p : ℕ) → r ≡ given.Refused n p → page′ ≡ page
+  read-back-leaves n p e = call .bytes ∙ refused-page (bodiesRead s P) page (returned r (given.Refused n p) (call .answer) .0 e)
+
+  pub read-back-accepts : (n : ℕ) → (r ≡ given.Done n) ↔ (Clear (readBackRows s P (length page)) × (n ≡ bodiesLength (byte P 0)))
+  read-back-accepts n = Iff·trans (returned r (given.Done n) (call .answer)) (read-back-exact s P bytes (length page) (done n))
+
+  -- A6: where it is done with n, the two bodies are the first n bytes of the page, and the others are as before;
+  module _ (n : ℕ) (written : r ≡ given.Done n) where
+    answered-so : readBackAnswer s P (length page) ≡ done n
+    answered-so = returned r (given.Done n) (call .answer) .0 written
+
+    pub read-back-stands : (take n page′ ≡ bodiesRead s P) × (drop n page′ ≡ drop n page)
+    read-back-stands = stands call answered-so (read-back-accepts n .0 written .1 ∙ sym (read-back-promise .long s P))
+
+    -- in the place of the submission's own they pass checks 1 to 4, and each step is right
+    pub read-back-right : Clear (rows1to4 (replaced s P)) × ((i : ℕ) → i < byte P 0 → StepFits (replaced s P) i × (concluded (replaced s P) i ≡ held s P (resultOf s i)))
+    read-back-right = (read-back-promise .reads s P bytes (length page) n answered-so .0, read-back-promise .right s P bytes (length page) n answered-so)
+
+-- ---- A6: a call of `check` on s and page that accepted with n and left page′, and one of `read_back` with the program on that page and a sheet
+-- that is long enough, which returned r and left sheet′
+module _ (s page page′ : List ℕ) (v : Verdict) (bytes : Bytes s) (call : Checked s page v page′) (n : ℕ) (accepted : v ≡ Accepted n) (sheet sheet′ : List ℕ) (r : AnswerGiven)
+    (back : BodiesWritten s (take (programLength n) page′) sheet r sheet′) (room : bodiesLength n ≤ length sheet) where
+  abbrev P : List ℕ
+  P = take (programLength n) page′
+
+  check-done : checkAnswer s (length page) ≡ done n
+  check-done = returned-verdict v (Accepted n) (call .answer) .0 accepted
+
+  page-is : P ≡ bytesOf (program s)
+  page-is = call-keeps s page page′ v bytes call n accepted .program
+
+  back-done : readBackAnswer s P (length sheet) ≡ done (bodiesLength n)
+  back-done = ap (λ x. readBackAnswer s x (length sheet)) page-is ∙ read-back-promise .taken s bytes (length page) n check-done (length sheet) room
+
+  own-bodies : (derivationRead s P ≡ bodyAt s 2) × (claimRead s P ≡ bodyAt s 3)
+  own-bodies = subst (λ x. (derivationRead s x ≡ bodyAt s 2) × (claimRead s x ≡ bodyAt s 3)) (sym page-is) (read-back-promise .own s bytes (length page) n check-done)
+
+  -- "its page must give back its own derivation and claim"
+  pub back-own : (r ≡ given.Done (bodiesLength n)) × (take (bodiesLength n) sheet′ ≡ bodyAt s 2 ++ bodyAt s 3)
+  back-own =
+      let e = returned r (given.Done (bodiesLength n)) (back .answer) .1 back-done in
+      (e, read-back-stands s P sheet sheet′ r bytes back (bodiesLength n) e .0 ∙ ap₂ _++_ (own-bodies .0) (own-bodies .1))
+
+  -- the two bodies, as they stand on the sheet
+  first-two : Clear (rows1and2 s)
+  first-two = let (_, w, _, _) = call-accepts s page page′ v bytes call n .0 accepted in (w .read .0, (w .read .1 .0, tt))
+
+  sheet-is : sheet′ ≡ bodyAt s 2 ++ (bodyAt s 3 ++ drop (length (bodiesRead s P)) sheet)
+  sheet-is = back .bytes ∙ ap (λ x. pageAfter x (bodiesRead s P) sheet) back-done ∙ ap (λ x. x ++ drop (length (bodiesRead s P)) sheet) (ap₂ _++_ (own-bodies .0) (own-bodies .1)) ∙ append-assoc (bodyAt s 2) (bodyAt s 3) _
+
+  same-bodies : (take (4 * n) sheet′ ≡ bodyAt s 2) × (take 4 (drop (4 * n) sheet′) ≡ bodyAt s 3)
+  same-bodies =
+      let (f, _, _, _) = call-accepts s page page′ v bytes call n .0 accepted in
+      let l : length (bodyAt s 2) ≡ 4 * n = body-length s bytes first-two 2 (omega arith) ∙ ap (λ k. 4 * k) (sym f) in
+      let m : length (bodyAt s 3) ≡ 4 = sym (ap length (own-bodies .1)) in
+      (ap (take (4 * n)) sheet-is ∙ take-at (bodyAt s 2) _ (4 * n) l, ap (λ x. take 4 (drop (4 * n) x)) sheet-is ∙ ap (take 4) (drop-at (bodyAt s 2) _ (4 * n) l) ∙ take-at (bodyAt s 3) _ 4 m)
+
+  pub back-same : submissionOf (bodies (bodyAt s 0) (bodyAt s 1) (take (4 * n) sheet′) (take 4 (drop (4 * n) sheet′))) ≡ s
+  back-same = ap₂ (λ d c. submissionOf (bodies (bodyAt s 0) (bodyAt s 1) d c)) (same-bodies .0) (same-bodies .1) ∙ form-promise .writtenAgain s bytes first-two
+
+  -- "two bodies read back from an accepted page, checked again, must yield that page": a call of `check` on the submission with these bodies
+  pub back-again : (copy copy′ : List ℕ) (u : Verdict) → Checked (submissionOf (bodies (bodyAt s 0) (bodyAt s 1) (take (4 * n) sheet′) (take 4 (drop (4 * n) sheet′)))) copy u copy′ →
+      programLength n ≤ length copy → (u ≡ Accepted n) × (take (programLength n) copy′ ≡ take (programLength n) page′)
+  back-again copy copy′ u c l =
+      let again : Checked s copy u copy′ = subst (λ x. Checked x copy u copy′) back-same c in
+      let (f, w, k, _) = call-accepts s page page′ v bytes call n .0 accepted in
+      let e = call-accepts s copy copy′ u bytes again n .1 (f, w, k, rw f at l) in
+      (e, call-keeps s copy copy′ u bytes again n e .program ∙ sym page-is)

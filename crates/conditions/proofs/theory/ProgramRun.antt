@@ -48,7 +48,7 @@ module _ (s : List ℕ) where
   pub program-bytes : length (bytesOf (program s)) ≡ programLength (steps s)
   program-bytes = program-length (program s) ∙ ap programLength program-steps
 
-  instruction-read : (i : ℕ) → i < steps s → instructionAt (bytesOf (program s)) i ≡ instruction s i
+  pub instruction-read : (i : ℕ) → i < steps s → instructionAt (bytesOf (program s)) i ≡ instruction s i
   unfolding program
   instruction-read i l =
       instruction-back (program s) (instruction s i) i (omega (arith, program-steps)) ∙ listed-at (instruction s) i (steps s) (instruction s i) l

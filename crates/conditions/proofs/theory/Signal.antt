@@ -64,7 +64,7 @@ module _ (s : List ℕ) (bytes : Bytes s) (w : WellFormed s) (c : FiveConditions
   claim : Claimed s
   claim = claimed-clear s bytes (w .read)
 
-  guess-right : term s (guess s) ≡ guessed s (nameAt s (guess s))
+  pub guess-right : term s (guess s) ≡ guessed s (nameAt s (guess s))
   unfolding guessed
   guess-right = claim .guess-term ∙ ap (λ o. atom (atomKind o) (nameAt s (guess s))) (sym (claim .guess-shape))
 
@@ -80,15 +80,15 @@ module _ (s : List ℕ) (bytes : Bytes s) (w : WellFormed s) (c : FiveConditions
   way-found : {o : Option Way} → wayOf (wayAt s) ≡ o → claimsIn o ≡ verifier → Verified s → hasSecondWay s o ≡ true
   way-found e k v = subst (λ o. hasSecondWay s o ≡ true) e (second-way-iff claim (w .shaped) (ap claimsIn e ∙ k) .1 (v .secondWay))
 
-  start-known : wayOf (wayAt s) ≡ some at-start → Verified s → isKnown s 0 (conclusionAt s (verifying s)) ≡ true
+  pub start-known : wayOf (wayAt s) ≡ some at-start → Verified s → isKnown s 0 (conclusionAt s (verifying s)) ≡ true
   start-known e v = way-found e refl v
 
-  inverse-known : wayOf (wayAt s) ≡ some inverse-key → Verified s → isKnown s (steps s) (companion s) ≡ true
+  pub inverse-known : wayOf (wayAt s) ≡ some inverse-key → Verified s → isKnown s (steps s) (companion s) ≡ true
   inverse-known e v = says-and (areInverse s (conclusionAt s (verifying s)) (companion s)) _ (says-true _) (says-true _) .0 (way-found e refl v) .1
 
   -- ---- ways k and j: the register of what gives the term claimed
   -- an entry that is the term claimed
-  entry-gives : (t : Target) → InKnowledge s (target s t) → (entryGiven s t < entries s) × (term s (entryAt s (entryGiven s t)) ≡ target s t)
+  pub entry-gives : (t : Target) → InKnowledge s (target s t) → (entryGiven s t < entries s) × (term s (entryAt s (entryGiven s t)) ≡ target s t)
   unfolding entryGiven
   entry-gives t (r, l, e) =
       let (q, f, b, h) = first-found (λ r. ite (term? (target s t) (term s (entryAt s r))) true false) (entries s) r l (says-test (term? (target s t) (term s (entryAt s r))) .1 e) in
@@ -171,8 +171,11 @@ module _ (s : List ℕ) (bytes : Bytes s) (w : WellFormed s) (c : FiveConditions
   abbrev right : ℕ
   right = nameAt s (guess s)
 
-  right-result : (i : ℕ) → i < steps s → value s right (steps s) (written s i) ≡ concluded s i
+  pub right-result : (i : ℕ) → i < steps s → value s right (steps s) (written s i) ≡ concluded s i
   right-result = own-result right (λ _. sym guess-right)
+
+  pub right-lowest : (i t : ℕ) → i ≤ steps s → isKnown s i t ≡ true → value s right (steps s) (lowest s t) ≡ term s t
+  right-lowest = own-lowest right (λ _. sym guess-right)
 
   asked-right : (o : Option Way) → wayOf (wayAt s) ≡ o → ClaimMet s (claimsIn o) → asked s right o ≡ true
   unfolding relationOf
@@ -181,12 +184,12 @@ module _ (s : List ℕ) (bytes : Bytes s) (w : WellFormed s) (c : FiveConditions
       let (l, f, d) = second-of e v in
       says-equal _ _ .1 (right-result (companion s) l ∙ f ∙ sym (right-result (verifying s) (v .present)))
   asked-right (some at-start) e v =
-      says-equal _ _ .1 (own-lowest right (λ _. sym guess-right) 0 _ (omega arith) (start-known e v) ∙ sym (right-result (verifying s) (v .present)))
+      says-equal _ _ .1 (right-lowest 0 _ (omega arith) (start-known e v) ∙ sym (right-result (verifying s) (v .present)))
   asked-right (some inverse-key) e v =
       let z = second-of e v in
       let r = right-result (verifying s) (v .present) in
       says-inverse _ _ .1
-      (subst isKey (sym r) (z .0), own-lowest right (λ _. sym guess-right) (steps s) (companion s) (omega arith) (inverse-known e v) ∙ z .1 ∙ ap inverse (sym r))
+      (subst isKey (sym r) (z .0), right-lowest (steps s) (companion s) (omega arith) (inverse-known e v) ∙ z .1 ∙ ap inverse (sym r))
   asked-right (some guess-derived) e g =
       says-equal _ _ .1 (given-value right the-guess (ap claimsIn e) g ∙ guess-right ∙ sym (guess-value right))
   asked-right (some inverse-derived) e g =

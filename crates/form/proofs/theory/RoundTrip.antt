@@ -24,7 +24,7 @@ middle s x y z i n e f g = rw (e, drop-at x (y ++ z) i f, take-at y z n g)
 
 module _ (b : Bodies) where
   -- the counts that stand in the contents
-  counts : (i : ℕ) → i < 4 → count (submissionOf b) i ≡ records b i
+  pub counts : (i : ℕ) → i < 4 → count (submissionOf b) i ≡ records b i
   unfolding submissionOf contents
   counts = each-of-four (λ i. count (submissionOf b) i ≡ records b i) refl refl refl refl
 
@@ -75,7 +75,7 @@ module _ (b : Bodies) where
 -- ---- writing what was read
 module _ (s : List ℕ) (bytes : Bytes s) (clear : Clear (rows1and2 s)) where
   -- the bodies' lengths
-  body-length : (i : ℕ) → i < 4 → length (bodyAt s i) ≡ width i * count s i
+  pub body-length : (i : ℕ) → i < 4 → length (bodyAt s i) ≡ width i * count s i
   unfolding startOf
   body-length =
       let (_, e) = contents-fit s bytes clear in

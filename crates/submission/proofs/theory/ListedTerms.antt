@@ -2,11 +2,12 @@
 -- Its records are a table: its term numbers stand for its terms, one for one.
 use mathlib.Core.Path.{_≡_, refl, sym, ap, ap₂, _∙_, subst}
 use mathlib.Core.Logic.{_↔_, _⊎_, inl, ⊎-elim}
-use mathlib.Core.Bool.{true, false, cond, false≢true, not}
+use mathlib.Core.Bool.{Bool, true, false, cond, false≢true, not}
 use mathlib.Core.List.{List}
 use mathlib.Core.Option.{Option, none, some}
 use Prim.Native.Nat.{ℕ, zero, suc, _+_, _*_, _<_, _≤_}
 use native.Mathlib.Omega.{arith}
+use lib.Dec.{eqb}
 use borrow.Author.Tests.{ltb-false}
 use Rattle.base.proofs.Order.{lt-or-ge}
 use Rattle.base.proofs.Says.{Says, says-true, says-eqb, says-ltb, says-and, says-or, not-not-false, or-false, none-fails}
@@ -220,6 +221,20 @@ form-of {s} z i f a b l e = go (z .good i l .shape) (z .good i l .has) (z .good 
         (shape-kind _ _ h ∙ ap (λ k. kindOf (compound k)) p, subst (λ k. HasSecond s i (second k)) p (g .1))
 
 -- ---- check 5
+-- a way has one letter
+pub way-letter : (l : ℕ) (w : Way) → wayOf l ≡ some w → l ≡ row w .letter
+unfolding wayOf
+way-letter l w e = go (eqb l 0x61) (eqb l 0x62) (eqb l 0x63) (eqb l 0x6B) (eqb l 0x6A) (says-eqb l 0x61 .0) (says-eqb l 0x62 .0) (says-eqb l 0x63 .0) (says-eqb l 0x6B .0) (says-eqb l 0x6A .0) e
+  where
+    go : (a b c d f : Bool) → (a ≡ true → l ≡ 0x61) → (b ≡ true → l ≡ 0x62) → (c ≡ true → l ≡ 0x63) → (d ≡ true → l ≡ 0x6B) → (f ≡ true → l ≡ 0x6A) →
+        cond a (some another-step) (cond b (some at-start) (cond c (some inverse-key) (cond d (some guess-derived) (cond f (some inverse-derived) none)))) ≡ some w → l ≡ row w .letter
+    go true b c d f x y z u v e = let q : another-step ≡ w = cc in x refl ∙ ap (λ w. row w .letter) q
+    go false true c d f x y z u v e = let q : at-start ≡ w = cc in y refl ∙ ap (λ w. row w .letter) q
+    go false false true d f x y z u v e = let q : inverse-key ≡ w = cc in z refl ∙ ap (λ w. row w .letter) q
+    go false false false true f x y z u v e = let q : guess-derived ≡ w = cc in u refl ∙ ap (λ w. row w .letter) q
+    go false false false false true x y z u v e = let q : inverse-derived ≡ w = cc in v refl ∙ ap (λ w. row w .letter) q
+    go false false false false false x y z u v e = absurd (let o : _≡_ {A = ℕ} 0 1 = cc in omega arith)
+
 says-in-range : (s : List ℕ) (r : Range) (n : ℕ) → Says (inRange s r n) (InRange s r n)
 says-in-range s step-number n = says-ltb n (steps s)
 says-in-range s term-number n = says-ltb n (terms s)
