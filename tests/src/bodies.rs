@@ -35,6 +35,11 @@ impl Bodies {
         submission(self.bytes())
     }
 
+    /// The first register that a program writes: those before it hold the knowledge and the guess.
+    pub fn first_written(&self) -> usize {
+        self.knowledge.len() + 1
+    }
+
     /// The same terms and knowledge, with the derivation and the claim that a program was read back
     /// to.
     pub fn with(&self, read_back: &[u8]) -> Bodies {

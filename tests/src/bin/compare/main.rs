@@ -60,11 +60,13 @@ fn compare(seed: u64, count: u64) -> Result<(), String> {
         compare_inputs(&thread_name, &[titled], &mut tally)?;
     }
     let mut source = Source::new(seed);
+    let programs = examples::programs();
     let examples: Vec<_> = examples::names()
         .into_iter()
         .map(|name| {
-            let input = source.example(examples::submission(&name), vec![]);
-            (format!("example {name}"), input)
+            let over_it = programs.iter().filter(|program| program.over == name);
+            let sent = over_it.map(|program| program.bytes.clone()).collect();
+            (format!("example {name}"), source.example(examples::submission(&name), sent))
         })
         .collect();
     each_is_told_apart(&examples)?;
