@@ -27,6 +27,8 @@ pub fn deepest() -> Vec<(String, Input)> {
         ("hashes of the guess".to_string(), shapes::built(Nesting::Hashes, Body::Terms.most(), 1)),
         ("a key of hashes of a known atom".to_string(), shapes::locked_by_hashes(true)),
         ("a key of hashes of a hidden atom".to_string(), shapes::locked_by_hashes(false)),
+        ("doubling pairs listed last".to_string(), shapes::listed_last(Nesting::DoublingPairs)),
+        ("hashes listed last".to_string(), shapes::listed_last(Nesting::Hashes)),
         (
             "pairs of keys up to the limit".to_string(),
             shapes::atoms(&[Kind::Public, Kind::Private], Naming::OneLowByte),
