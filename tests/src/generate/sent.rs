@@ -88,34 +88,34 @@ pub fn astray(program: &[u8], guess: u8) -> Vec<u8> {
     assembled(&instructions, test)
 }
 
-/// A program that leaves the table, most often; or one whose test has its registers turned round, or
-/// is another, so that it may make no claim; or both.
+/// The program with an instruction that most often leaves the table, or with a test that may make no
+/// claim: with its registers turned round, or any; or with both.
 fn changed(random: &mut Random, program: &[u8], first_written: usize) -> Vec<u8> {
-    let manner = random.weighted(&[55, 15, 20, 10]);
-    let mut changed = program.to_vec();
-    if manner == 0 || manner == 2 {
-        changed = strayed(random, program, first_written);
+    match random.weighted(&[55, 15, 20, 10]) {
+        0 => strayed(random, program, first_written),
+        1 => turned(program),
+        2 => turned(&strayed(random, program, first_written)),
+        _ => {
+            let (instructions, _) = parts(program);
+            let registers = any_two(random, first_written + instructions.len());
+            assembled(&instructions, tested(random.pick(&Test::ALL), registers))
+        }
     }
-    if manner == 1 || manner == 2 {
-        let last = changed.len() - 1;
-        changed.swap(last - 1, last);
-    }
-    if manner == 3 {
-        let written = first_written + usize::from(program[0]);
-        let test = tested(random.pick(&Test::ALL), any_two(random, written));
-        let at = changed.len() - INSTRUCTION_SIZE;
-        changed[at..].copy_from_slice(&test);
-    }
-    changed
 }
 
+fn turned(program: &[u8]) -> Vec<u8> {
+    let (instructions, [letter, first, second]) = parts(program);
+    assembled(&instructions, [letter, second, first])
+}
+
+/// The instructions, and the test.
 fn parts(program: &[u8]) -> (Vec<[u8; INSTRUCTION_SIZE]>, [u8; INSTRUCTION_SIZE]) {
     let mut instructions: Vec<_> = records(&program[1..]).collect();
     let test = instructions.pop().expect("a test ends the program");
     (instructions, test)
 }
 
-/// Two registers below this one, of which the first ones are taken as often as the others.
+/// Two registers below this one.
 fn any_two(random: &mut Random, written: usize) -> [u8; 2] {
     [(); 2].map(|()| random.below(written) as u8)
 }

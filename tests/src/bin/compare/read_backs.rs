@@ -101,10 +101,10 @@ fn may_be_refused(bodies: &Bodies, reason: Reason) -> bool {
     let kind = Kind::from_number(bodies.terms[usize::from(guess)][0]);
     let is_key = kind.is_some_and(|kind| kind.inverse().is_some());
     let way = Way::from_letter(way).expect("the test is that of a way");
-    match (way.claimed(), reason) {
-        (Claimed::Deducible(Deducible::Inverse), _) if !is_key => reason == Reason::Claim,
-        (Claimed::Deducible(_), _) => matches!(reason, Reason::Unfounded | Reason::NotShown),
-        (Claimed::Verifier(_), _) => {
+    match way.claimed() {
+        Claimed::Deducible(Deducible::Inverse) if !is_key => reason == Reason::Claim,
+        Claimed::Deducible(_) => matches!(reason, Reason::Unfounded | Reason::NotShown),
+        Claimed::Verifier(_) => {
             matches!(reason, Reason::Reachable | Reason::NoSecondWay | Reason::Undone)
         }
     }
