@@ -32,14 +32,11 @@ use Rattle.program.specs.declared.Test.{Test as TestRead}
 use Rattle.program.specs.{Program.Instruction, Program.relationOf, Program.instructionAt, Program.testAt, Program.RegistersFit, Code.instructionIn, Code.testIn, Computed.badProgram}
 use Rattle.program.proofs.theory.Check13.{program-iff, right-fits}
 use Rattle.machine.specs.Code.{RegisterNumbers}
-use Rattle.submission.proofs.theory.ListedTerms.{Claimed, claimed}
+use Rattle.machine.proofs.theory.StartState.{facts}
 use Rattle.readback.specs.ReadBack.{stepOf, number, stepRead, stepsRead, wayFrom, wayRead, verifyingRead, companionRead, claimRead}
 use Rattle.readback.specs.Computed.{offTable, noClaim}
 use Rattle.readback.specs.Code.{RegisterCount, Numbered}
 use Rattle.readback.proofs.theory.ReadBackAnswer.{says-off-table, number-is, listed-on}
-
-facts : {s : List ℕ} → SubmissionRead s → Claimed s
-facts {s} w = claimed s (w .bytes) (w .passed)
 
 -- ---- a register's number: k is r, made wide
 module _ (l : List ℕ) {k r : ℕ} (e : k ≡ r) where

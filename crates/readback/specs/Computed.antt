@@ -1,15 +1,13 @@
 -- The answer of reading back, computed; that it is as the rows say is proved: `read-back-exact`.
-use Rattle.base.specs.{Words.Bool, Words.true, Words.false, Words._&&_, Words._||_, Words.not, Words.ite, Words.List, Words.ℕ, Words.eqb, Words.ltb, Words.first, Words.byte, Answer.Answer, Answer.done, Computed.any, Computed.Check, Computed.failsAt, Computed.failsIf, Computed.checkRoom, Computed.andThen, Computed.answered}
-use Rattle.term.specs.Computed.{term?}
-use Rattle.submission.specs.{Record.terms, Record.entries, Record.term, Computed.checks1to5}
+use Rattle.base.specs.{Words.Bool, Words._&&_, Words._||_, Words.not, Words.List, Words.ℕ, Words.eqb, Words.ltb, Words.first, Words.byte, Answer.Answer, Answer.done, Computed.any, Computed.Check, Computed.failsAt, Computed.failsIf, Computed.checkRoom, Computed.andThen, Computed.answered}
+use Rattle.submission.specs.{Record.terms, Record.entries, Computed.checks1to5}
 use Rattle.derivation.specs.Step.{written}
 use Rattle.program.specs.{Program.Instruction, Program.testAt, Computed.badProgram}
-use Rattle.machine.specs.Run.{held}
-use Rattle.readback.specs.ReadBack.{bodiesLength}
+use Rattle.readback.specs.ReadBack.{holdsNumber, bodiesLength}
 
 -- the term of register r isn't listed
 unfoldable pub offTable : List ℕ → List ℕ → ℕ → Bool
-offTable s P r = not (any (λ n. ite (term? (held s P r) (term s n)) true false) (terms s))
+offTable s P r = not (any (holdsNumber s P r) (terms s))
 
 -- the test's first register is a knowledge register, or both are the guess's
 abbrev pub noClaim : List ℕ → Instruction → Bool

@@ -12,9 +12,13 @@ use Rattle.machine.specs.Run.{held, programRows}
 abbrev pub stepOf : List ℕ → ℕ → ℕ
 stepOf s r = r - (entries s + 1)
 
--- the number of the term that register r holds with the right guess; one that isn't listed, which check 17 refuses, reads as 0
+-- register r holds term n, with the right guess
+abbrev pub holdsNumber : List ℕ → List ℕ → ℕ → ℕ → Bool
+holdsNumber s P r n = ite (term? (held s P r) (term s n)) true false
+
+-- the number of the term that register r holds; one that isn't listed, which check 17 refuses, reads as 0
 unfoldable pub number : List ℕ → List ℕ → ℕ → ℕ
-number s P r = elim (first (λ n. ite (term? (held s P r) (term s n)) true false) (terms s)) [ none ↦ 0 | some n ↦ n ]
+number s P r = elim (first (holdsNumber s P r) (terms s)) [ none ↦ 0 | some n ↦ n ]
 
 -- "rule, p, q, conclusion", of instruction i; q is 0 where the rule has one premise
 abbrev pub stepRead : List ℕ → List ℕ → ℕ → List ℕ

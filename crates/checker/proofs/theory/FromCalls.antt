@@ -16,6 +16,7 @@ use Rattle.base.proofs.RefusalLaws.{SomeHolds, refuses-some, Numbers, some-numb
 use Rattle.term.specs.{Term.asymmetric, Term.Match, Term.Stale, Step.Deducible}
 use Rattle.submission.specs.Record.{terms, steps, guess, nameAt, term, InKnowledge, guessed}
 use Rattle.submission.specs.{Body.Bodies, Body.bodies, Body.bodyAt, Body.bodiesOf, Body.submissionOf, Check.Target, Check.Claims, Check.verifier, Check.derived, Check.claims, Check.rows1and2, Check.rows1to4}
+use Rattle.submission.proofs.theory.ReadingRows.{first-two}
 use Rattle.form.specs.{Write.writeRows, Write.ReadsAs, Computed.writeAnswer, Calls.FormWritten}
 use Rattle.form.proofs.theory.{WriteAnswer.write-exact, RoundTrip.form-promise, RoundTrip.body-length}
 use Rattle.inverse.specs.{Inverse.inversesRows, Inverse.InverseListed, Computed.inversesOf, Calls.InversesWritten}
@@ -202,9 +203,9 @@ module _ (b : Bodies) (page page′ : List ℕ) (r : AnswerGiven) (call : FormWr
 -- ---- a call of `write` on the bodies of a well-formed submission, with page enough
 pub write-again : (s page page′ : List ℕ) (r : AnswerGiven) → Bytes s → WellFormed s → length s ≤ length page → FormWritten (bodiesOf s) page r page′ → (r ≡ given.Done (length s)) × (take (length s) page′ ≡ s)
 write-again s page page′ r bytes w l call =
-    let first-two : Clear (rows1and2 s) = (w .read .0, (w .read .1 .0, tt)) in
-    let done-is = returned r (given.Done (length s)) (call .answer) .1 (form-promise .notRefused s bytes first-two (length page) l) in
-    (done-is, write-stands (bodiesOf s) page page′ r call (length s) done-is .0 ∙ form-promise .writtenAgain s bytes first-two)
+    let counted = first-two s (w .read) in
+    let done-is = returned r (given.Done (length s)) (call .answer) .1 (form-promise .notRefused s bytes counted (length page) l) in
+    (done-is, write-stands (bodiesOf s) page page′ r call (length s) done-is .0 ∙ form-promise .writtenAgain s bytes counted)
 
 -- ---- a call of `inverses` on s and page that returned r and left page′
 module _ (s page page′ : List ℕ) (r : AnswerGiven) (bytes : Bytes s) (call : InversesWritten s page r page′) where
@@ -281,8 +282,8 @@ module _ (s page page′ : List ℕ) (v : Verdict) (bytes : Bytes s) (call : Che
       (e, read-back-stands s P sheet sheet′ r bytes back (bodiesLength n) e .0 ∙ ap₂ _++_ (own-bodies .0) (own-bodies .1))
 
   -- the two bodies, as they stand on the sheet
-  first-two : Clear (rows1and2 s)
-  first-two = let (_, w, _, _) = call-accepts s page page′ v bytes call n .0 accepted in (w .read .0, (w .read .1 .0, tt))
+  counted : Clear (rows1and2 s)
+  counted = let (_, w, _, _) = call-accepts s page page′ v bytes call n .0 accepted in first-two s (w .read)
 
   sheet-is : sheet′ ≡ bodyAt s 2 ++ (bodyAt s 3 ++ drop (length (bodiesRead s P)) sheet)
   sheet-is = back .bytes ∙ ap (λ x. pageAfter x (bodiesRead s P) sheet) back-done ∙ ap (λ x. x ++ drop (length (bodiesRead s P)) sheet) (ap₂ _++_ (own-bodies .0) (own-bodies .1)) ∙ append-assoc (bodyAt s 2) (bodyAt s 3) _
@@ -290,12 +291,12 @@ module _ (s page page′ : List ℕ) (v : Verdict) (bytes : Bytes s) (call : Che
   same-bodies : (take (4 * n) sheet′ ≡ bodyAt s 2) × (take 4 (drop (4 * n) sheet′) ≡ bodyAt s 3)
   same-bodies =
       let (f, _, _, _) = call-accepts s page page′ v bytes call n .0 accepted in
-      let l : length (bodyAt s 2) ≡ 4 * n = body-length s bytes first-two 2 (omega arith) ∙ ap (λ k. 4 * k) (sym f) in
+      let l : length (bodyAt s 2) ≡ 4 * n = body-length s bytes counted 2 (omega arith) ∙ ap (λ k. 4 * k) (sym f) in
       let m : length (bodyAt s 3) ≡ 4 = sym (ap length (own-bodies .1)) in
       (ap (take (4 * n)) sheet-is ∙ take-at (bodyAt s 2) _ (4 * n) l, ap (λ x. take 4 (drop (4 * n) x)) sheet-is ∙ ap (take 4) (drop-at (bodyAt s 2) _ (4 * n) l) ∙ take-at (bodyAt s 3) _ 4 m)
 
   pub back-same : submissionOf (bodies (bodyAt s 0) (bodyAt s 1) (take (4 * n) sheet′) (take 4 (drop (4 * n) sheet′))) ≡ s
-  back-same = ap₂ (λ d c. submissionOf (bodies (bodyAt s 0) (bodyAt s 1) d c)) (same-bodies .0) (same-bodies .1) ∙ form-promise .writtenAgain s bytes first-two
+  back-same = ap₂ (λ d c. submissionOf (bodies (bodyAt s 0) (bodyAt s 1) d c)) (same-bodies .0) (same-bodies .1) ∙ form-promise .writtenAgain s bytes counted
 
   -- "two bodies read back from an accepted page, checked again, must yield that page": a call of `check` on the submission with these bodies
   pub back-again : (copy copy′ : List ℕ) (u : Verdict) → Checked (submissionOf (bodies (bodyAt s 0) (bodyAt s 1) (take (4 * n) sheet′) (take 4 (drop (4 * n) sheet′)))) copy u copy′ →

@@ -17,7 +17,7 @@ use Rattle.term.specs.Number.{hasOne}
 use Rattle.submission.specs.Record.{count, start, startOf, terms, entries, steps, ruleAt, pAt, qAt, secondAt, conclusionAt, guess, verifying, wayAt, companion, entryAt, nameAt, term}
 use Rattle.submission.specs.Body.{bodyAt}
 use Rattle.submission.specs.Check.{Way, another-step, at-start, inverse-key, guess-derived, inverse-derived, wayOf, Target, the-guess, its-inverse, verifier, derived, claimsIn, InRange, knowledgeStep, given-register, row, rows1and2}
-use Rattle.submission.proofs.theory.{ListedTerms.Claimed, ListedTerms.way-letter, ReadingRows.claimed-clear, ReadingRows.contents-fit}
+use Rattle.submission.proofs.theory.{ListedTerms.Claimed, ListedTerms.way-letter, ReadingRows.claimed-clear, ReadingRows.contents-fit, ReadingRows.first-two}
 use Rattle.derivation.specs.{Step.written, Step.concluded, Computed.isKnown}
 use Rattle.derivation.proofs.theory.RegisterTerms.{Written, entry, guessed, result, written-cases}
 use Rattle.program.specs.Program.{relationOf, bytesOf, instructionAt, testAt, Instruction}
@@ -54,8 +54,8 @@ module _ (s : List ℕ) (bytes : Bytes s) (w : WellFormed s) (c₀ : FiveConditi
   claim : Claimed s
   claim = claimed-clear s bytes (w .read)
 
-  first-two : Clear (rows1and2 s)
-  first-two = (w .read .0, (w .read .1 .0, tt))
+  counted : Clear (rows1and2 s)
+  counted = first-two s (w .read)
 
   pub own-count : byte P 0 ≡ steps s
   own-count = byte-count (program s) ∙ program-steps s
@@ -107,12 +107,12 @@ module _ (s : List ℕ) (bytes : Bytes s) (w : WellFormed s) (c₀ : FiveConditi
   -- the bodies reach to the submission's end
   one-claim : count s 3 ≡ 1
   one-claim =
-      let f = first-two .1 .0 2 3 in
+      let f = counted .1 .0 2 3 in
       ⊎-elim (λ l. absurd (f (refl, (omega arith, inl l)))) (λ l. ⊎-elim (λ h. absurd (f (refl, (omega arith, inr h)))) (λ h. omega arith) (lt-or-ge 1 (count s 3))) (lt-or-ge (count s 3) 1)
 
   whole : length s ≡ start s 2 + 4 * steps s + 4
   unfolding startOf
-  whole = contents-fit s bytes first-two .1 ∙ rw one-claim
+  whole = contents-fit s bytes counted .1 ∙ rw one-claim
 
   claim-start : start s 3 ≡ start s 2 + 4 * steps s
   unfolding startOf

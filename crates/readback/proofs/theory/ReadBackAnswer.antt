@@ -18,12 +18,8 @@ use Rattle.derivation.specs.Step.{written}
 use Rattle.program.specs.{Program.Instruction, Program.testAt, Computed.badProgram}
 use Rattle.machine.specs.Run.{held, programRows}
 use Rattle.machine.proofs.theory.RunAnswer.{tells-program}
-use Rattle.readback.specs.ReadBack.{number, bodiesLength, OffTable, NoClaim, readBackRows}
+use Rattle.readback.specs.ReadBack.{holdsNumber, number, bodiesLength, OffTable, NoClaim, readBackRows}
 use Rattle.readback.specs.Computed.{offTable, noClaim, checksAfter13, readBackAnswer}
-
--- term n is what register r holds
-abbrev pub holdsNumber : List ℕ → List ℕ → ℕ → ℕ → Bool
-holdsNumber s P r n = ite (term? (held s P r) (term s n)) true false
 
 says-number : (s P : List ℕ) (r n : ℕ) → Says (holdsNumber s P r n) (held s P r ≡ term s n)
 says-number s P r n = says-test (term? (held s P r) (term s n))
@@ -39,6 +35,11 @@ pub says-no-claim : (s : List ℕ) (t : Instruction) → Says (noClaim s t) (NoC
 says-no-claim s t = says-or _ _ (says-ltb (t .left) (entries s)) (says-and _ _ (says-eqb (t .left) (entries s)) (says-eqb (t .right) (entries s)))
 
 -- ---- Demand 1, reading back
+-- the rows after 13
+abbrev pub laterRows : List ℕ → List ℕ → ℕ → List (ℕ → ℕ → Type 0)
+laterRows s P room =
+    numbered 17 (λ r. (r < written s (byte P 0)) × OffTable s P r) ∷ numbered 18 (λ p. (p ≡ 0) × NoClaim s (testAt P)) ∷ row11 (bodiesLength (byte P 0)) room ∷ []
+
 -- It refuses with n at p exactly when row n holds at p and no row holds that the order puts before it; else it is done with the bodies' length.
 pub read-back-exact : (s P : List ℕ) → Bytes s → (room : ℕ) (a : Answer) → (readBackAnswer s P room ≡ a) ↔ Answers (readBackRows s P room) (λ n. n ≡ bodiesLength (byte P 0)) a
 unfolding readBackAnswer

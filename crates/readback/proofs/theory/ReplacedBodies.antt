@@ -8,23 +8,23 @@ use Prim.Native.Nat.{ℕ, zero, suc, _+_, _*_, _≤_, _<_}
 use native.Mathlib.Omega.{arith}
 use lib.ListN.{length, getD, length-append, List·getD-append}
 use lib.Seq.{getD-append-add}
-use Rattle.base.specs.{Words.byte, Words.Bytes, Answer.done, Answer.Clear, Answer.numbered, Answer.row11}
+use Rattle.base.specs.{Words.byte, Words.Bytes, Answer.done, Answer.Clear, Answer.numbered}
 use Rattle.base.proofs.{Order.lt-or-ge, Says.denies, Says.refutes, Says.each-of-four, RefusalLaws.clear-split}
 use Rattle.term.specs.{Term.Term, Term.Head, Term.Second, Term.absent, Term.anything, Term.keyFor, Term.second, Term.Shape, Term.atomic, Term.compound, Term.isKeyFor, Term.single, Term.void, Number.shapeOf, Number.headOf, Number.hasOne, Reduce.op, Step.Step, Code.Message}
 use Rattle.term.proofs.Reduce.{op-step}
 use Rattle.submission.specs.Record.{count, width, least, most, start, terms, entries, steps, kindAt, xAt, yAt, entryAt, ruleAt, pAt, qAt, secondAt, conclusionAt, guess, nameAt, term}
 use Rattle.submission.specs.Body.{Bodies, bodies, body, records, bodyAt, bodiesOf, submissionOf}
 use Rattle.submission.specs.Check.{HasSecond, Shaped, BadTerm, rows1and2, rows1to4, rows1to5}
-use Rattle.submission.proofs.theory.{ListedTerms.Claimed, ReadingRows.claimed-clear}
+use Rattle.submission.proofs.theory.{ListedTerms.Claimed, ReadingRows.claimed-clear, ReadingRows.first-four, ReadingRows.first-two}
 use Rattle.form.specs.Write.{ReadsAs, writeRows}
 use Rattle.form.proofs.theory.{WriteAnswer.write-exact, RoundTrip.form-promise, RoundTrip.counts, RoundTrip.body-length}
 use Rattle.derivation.specs.Step.{concluded, StepFits, written}
-use Rattle.program.specs.{Program.Instruction, Program.instructionAt, Program.testAt, Program.operand, Program.ProgramFits, Computed.badProgram}
+use Rattle.program.specs.{Program.Instruction, Program.instructionAt, Program.operand, Program.ProgramFits, Computed.badProgram}
 use Rattle.program.proofs.theory.Check13.{program-iff, operand-fits}
 use Rattle.machine.specs.Run.{registers, executed, held, programRows}
 use Rattle.machine.proofs.theory.RunRegisters.{register-kept, register-written}
-use Rattle.readback.specs.{ReadBack.number, ReadBack.stepRead, ReadBack.stepsRead, ReadBack.derivationRead, ReadBack.claimRead, ReadBack.bodiesRead, ReadBack.bodiesLength, ReadBack.OffTable, ReadBack.NoClaim, ReadBack.readBackRows, Computed.readBackAnswer, Computed.offTable, Promise.replaced, Promise.SameStart}
-use Rattle.readback.proofs.theory.ReadBackAnswer.{says-off-table, read-back-exact, number-found}
+use Rattle.readback.specs.{ReadBack.number, ReadBack.stepRead, ReadBack.stepsRead, ReadBack.derivationRead, ReadBack.claimRead, ReadBack.bodiesRead, ReadBack.bodiesLength, ReadBack.readBackRows, Computed.readBackAnswer, Computed.offTable, Promise.replaced, Promise.SameStart}
+use Rattle.readback.proofs.theory.ReadBackAnswer.{says-off-table, laterRows, read-back-exact, number-found}
 use Rattle.readback.proofs.theory.SameSubmissions.{body-byte, Agree, agree, term-alike}
 
 -- ---- whole bodies within their limits make a submission that passes checks 1 and 2
@@ -98,17 +98,8 @@ module _ (s P : List ℕ) (bytes : Bytes s) (room n : ℕ) (read : readBackAnswe
   all-clear : Clear (readBackRows s P room)
   all-clear = read-back-exact s P bytes room (done n) .0 read .0
 
-  abbrev later : List (ℕ → ℕ → Type 0)
-  later = numbered 17 (λ r. (r < written s (byte P 0)) × OffTable s P r) ∷ numbered 18 (λ p. (p ≡ 0) × NoClaim s (testAt P)) ∷ row11 (bodiesLength (byte P 0)) room ∷ []
-
   before : Clear (rows1to5 s) × Clear (numbered 13 (λ p. (p ≡ 0) × (ProgramFits s P → ⊥)) ∷ [])
-  before = clear-split (rows1to5 s) (numbered 13 (λ p. (p ≡ 0) × (ProgramFits s P → ⊥)) ∷ []) (clear-split (programRows s P) later all-clear .0)
-
-  first-four : Clear (rows1to4 s)
-  first-four = (before .0 .0, (before .0 .1 .0, (before .0 .1 .1 .0, (before .0 .1 .1 .1 .0, tt))))
-
-  first-two : Clear (rows1and2 s)
-  first-two = (before .0 .0, (before .0 .1 .0, tt))
+  before = clear-split (rows1to5 s) (numbered 13 (λ p. (p ≡ 0) × (ProgramFits s P → ⊥)) ∷ []) (clear-split (programRows s P) (laterRows s P room) all-clear .0)
 
   claim : Claimed s
   claim = claimed-clear s bytes (before .0)
@@ -118,7 +109,7 @@ module _ (s P : List ℕ) (bytes : Bytes s) (room n : ℕ) (read : readBackAnswe
 
   numbered-at : (r : ℕ) → r < written s (byte P 0) → (number s P r < terms s) × (held s P r ≡ term s (number s P r))
   numbered-at r l =
-      number-found s P r (denies (offTable s P r) (says-off-table s P r) .1 (λ u. clear-split (programRows s P) later all-clear .1 .0 17 r (refl, (l, u))))
+      number-found s P r (denies (offTable s P r) (says-off-table s P r) .1 (λ u. clear-split (programRows s P) (laterRows s P room) all-clear .1 .0 17 r (refl, (l, u))))
 
   -- ---- its bodies
   abbrev new : Bodies
@@ -130,7 +121,7 @@ module _ (s P : List ℕ) (bytes : Bytes s) (room n : ℕ) (read : readBackAnswe
   whole : (i : ℕ) → i < 4 → length (body new i) ≡ width i * counts-of i
   whole =
       each-of-four (λ i. length (body new i) ≡ width i * counts-of i)
-      (body-length s bytes first-two 0 (omega arith)) (body-length s bytes first-two 1 (omega arith)) (steps-length s P (byte P 0)) refl
+      (body-length s bytes (first-two s (before .0)) 0 (omega arith)) (body-length s bytes (first-two s (before .0)) 1 (omega arith)) (steps-length s P (byte P 0)) refl
 
   within : (i : ℕ) → i < 4 → (least i ≤ counts-of i) × (counts-of i ≤ most i)
   within =
@@ -163,7 +154,7 @@ module _ (s P : List ℕ) (bytes : Bytes s) (room n : ℕ) (read : readBackAnswe
   same = agree r s (count-at 0 (omega arith)) (count-at 1 (omega arith)) (same-start .terms) (same-start .knowledge)
 
   pub passes-four : Clear (rows1to4 r)
-  passes-four = table-clear same claim first-four (reads .passes)
+  passes-four = table-clear same claim (first-four s (before .0)) (reads .passes)
 
   -- ---- its steps
   module _ (i : ℕ) (l : i < byte P 0) where

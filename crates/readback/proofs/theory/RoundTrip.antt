@@ -7,10 +7,10 @@ use mathlib.Core.List.{List, [], _∷_, _++_}
 use Prim.Native.Nat.{ℕ, _+_, _≤_, _<_}
 use native.Mathlib.Omega.{arith}
 use lib.Dec.{eqb, ltb}
-use Rattle.base.specs.{Words.Bytes, Words.byte, Words.first, Answer.done, Answer.Clear, Answer.numbered, Answer.row11, Computed.any, Computed.passes}
+use Rattle.base.specs.{Words.Bytes, Words.byte, Words.first, Answer.done, Answer.Clear, Computed.any, Computed.passes}
 use Rattle.base.proofs.{First.first-equal, Says.same-test, RefusalLaws.passes-iff, RefusalLaws.both-clear}
-use Rattle.submission.specs.{Record.terms, Record.entries, Record.steps, Record.guess, Record.term, Body.bodies, Body.bodyAt, Body.submissionOf, Check.rows1and2, Check.rows1to5, Computed.checks1to5}
-use Rattle.submission.proofs.theory.ReadingRows.{tells-1-to-5, claimed-clear}
+use Rattle.submission.specs.{Record.terms, Record.entries, Record.steps, Record.guess, Record.term, Body.bodies, Body.bodyAt, Body.submissionOf, Check.rows1to5, Computed.checks1to5}
+use Rattle.submission.proofs.theory.ReadingRows.{tells-1-to-5, claimed-clear, first-two}
 use Rattle.form.proofs.theory.RoundTrip.{form-promise}
 use Rattle.derivation.specs.Step.{written}
 use Rattle.program.specs.{Program.bytesOf, Program.testAt, Computed.badProgram}
@@ -18,14 +18,11 @@ use Rattle.machine.specs.Run.{held, programRows}
 use Rattle.machine.proofs.theory.RunAnswer.{tells-program}
 use Rattle.conditions.specs.{Calls.program, Condition.WellFormed, Condition.FiveConditions, Computed.checkAnswer}
 use Rattle.conditions.proofs.theory.{Acceptance.accepted-iff, Signal.program-good}
-use Rattle.readback.specs.{ReadBack.derivationRead, ReadBack.claimRead, ReadBack.bodiesLength, ReadBack.OffTable, ReadBack.NoClaim, ReadBack.readBackRows, Computed.offTable, Computed.noClaim, Computed.readBackAnswer, Promise.replaced, Promise.SameStart, Promise.ReadBackPromise}
-use Rattle.readback.proofs.theory.ReadBackAnswer.{says-off-table, read-back-exact}
+use Rattle.readback.specs.{ReadBack.derivationRead, ReadBack.claimRead, ReadBack.bodiesLength, ReadBack.readBackRows, Computed.offTable, Computed.noClaim, Computed.readBackAnswer, Promise.replaced, Promise.SameStart, Promise.ReadBackPromise}
+use Rattle.readback.proofs.theory.ReadBackAnswer.{says-off-table, laterRows, read-back-exact}
 use Rattle.readback.proofs.theory.SameSubmissions.{Agree, same-agree, term-alike, held-alike, steps-alike, claim-alike}
 use Rattle.readback.proofs.theory.OwnPage.{own-count, own-listed, own-derivation, own-claim, own-claims}
 use Rattle.readback.proofs.theory.ReplacedBodies.{bodies-length, same-start, step-count, passes-four, concluded-held, step-fits}
-
-first-two : (s : List ℕ) → Clear (rows1to5 s) → Clear (rows1and2 s)
-first-two s c = (c .0, (c .1 .0, tt))
 
 -- ---- the page of an acceptance
 module _ (s : List ℕ) (b : Bytes s) (w : WellFormed s) (c : FiveConditions s) where
@@ -35,7 +32,7 @@ module _ (s : List ℕ) (b : Bytes s) (w : WellFormed s) (c : FiveConditions s) 
   own-clear : (sheet : ℕ) → bodiesLength (steps s) ≤ sheet → Clear (readBackRows s P sheet)
   own-clear sheet l =
       let r = passes-iff (tells-1-to-5 s b) .1 (w .read) in
-      both-clear (programRows s P) (numbered 17 (λ r. (r < written s (byte P 0)) × OffTable s P r) ∷ numbered 18 (λ p. (p ≡ 0) × NoClaim s (testAt P)) ∷ row11 (bodiesLength (byte P 0)) sheet ∷ [])
+      both-clear (programRows s P) (laterRows s P sheet)
       (passes-iff (tells-program s P b) .0 (rw (r, program-good s b w c)))
       ((λ m q (_, (k, u)). true≢false (sym (says-off-table s P q .1 u) ∙ own-listed s b w c q k)), ((λ m q (_, (_, h)). own-claims s b w c h), ((λ m q (_, (_, k)). omega (arith, own-count s b w c)), tt)))
 

@@ -22,8 +22,7 @@ use Rattle.program.specs.Program.{Instruction, instructionAt, testAt}
 use Rattle.machine.specs.Run.{initial, executed, registers, held}
 use Rattle.machine.proofs.theory.StateGrowth.{decoded-alike}
 use Rattle.form.proofs.theory.RoundTrip.{body-length}
-use Rattle.readback.specs.{ReadBack.number, ReadBack.stepRead, ReadBack.stepsRead, ReadBack.wayRead, ReadBack.verifyingRead, ReadBack.companionRead, ReadBack.claimRead}
-use Rattle.readback.proofs.theory.ReadBackAnswer.{holdsNumber}
+use Rattle.readback.specs.{ReadBack.holdsNumber, ReadBack.number, ReadBack.stepRead, ReadBack.stepsRead, ReadBack.wayRead, ReadBack.verifyingRead, ReadBack.companionRead, ReadBack.claimRead}
 
 -- a byte of a body, where the body starts
 pub body-byte : (s : List ℕ) (k i : ℕ) → i < width k * count s k → byte (bodyAt s k) i ≡ byte s (start s k + i)

@@ -44,3 +44,10 @@ claimed-clear s b c = claimed s b (passes-iff (tells-1-to-5 s b) .1 c)
 pub contents-fit : (s : List ℕ) → Bytes s → Clear (rows1and2 s) → ContentsFit s
 contents-fit s b c =
     ⊎-elim (λ t. absurd (c .0 1 0 (refl, (refl, says-bad-contents s b .0 t)))) (contents-iff s b .0) (true-or-false (badContents s))
+
+-- the first of the rows
+pub first-four : (s : List ℕ) → Clear (rows1to5 s) → Clear (rows1to4 s)
+first-four s c = (c .0, (c .1 .0, (c .1 .1 .0, (c .1 .1 .1 .0, tt))))
+
+pub first-two : (s : List ℕ) → Clear (rows1to5 s) → Clear (rows1and2 s)
+first-two s c = (c .0, (c .1 .0, tt))
