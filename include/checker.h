@@ -1,4 +1,4 @@
-/* The checker's five calls, in libchecker.a (rt staticlib checker). bindings/ has an example in C, and a safe wrapper for Rust.
+/* The checker's six calls, in libchecker.a (rt staticlib checker). bindings/ has an example in C, and a safe wrapper for Rust.
 
    Answers. Every call takes any bytes and ends. An answer is one number. A refusal is number * 65536 + place, with the numbers and
    places of docs/VERDICTS.md; every other answer is below 65536. That each call answers what the definitions under crates/ give, and
@@ -63,6 +63,29 @@ uint32_t checker_write(const uint8_t *terms, size_t terms_len, const uint8_t *kn
    the first T bytes of the page are written, and the others are as before. A refusal is 1 to 4, then 11, with T as place, and leaves the
    page as it was. The derivation and the claim are counted only. A page of 250 bytes is never too short. */
 uint32_t checker_inverses(const uint8_t *sub, size_t sub_len, uint8_t *page, size_t page_len);
+
+/* Reads a program back, such as one cut from a paper: turns a program over the submission's terms, knowledge and guess into a derivation
+   and a claim. Each register's term is what the machine holds with the right guess, which is the submission's own. The page gets the
+   derivation, one step for each of the program's n, then the claim. The answer is 4n+4, the count of bytes written, which are the first of
+   the page; the others are as before. The claim has the submission's own guess, and for the rest the test is read as the layout writes it:
+
+     first register   second register   test   way   step                  companion
+     the guess's      a step's          = i    k j   the second register   0
+     the guess's      a knowledge one   = i    k j   255                   0
+     a step's         any               i      c     the first register    the term that the second register holds
+     a step's         a step's          =      a     the first register    the second register
+     a step's         a lower one       =      b     the first register    0
+
+   What the second register holds is not looked at in way b, nor with 255; so a program that signals 0 may be read back to bodies that are
+   accepted. A refusal is 1 to 5, for which the submission's own derivation and claim count, then 13, then 17 where a register's term isn't
+   listed, with the first such register as place, then 18 where the test's first register is a knowledge register or both of its registers
+   are the guess's, then 11, with 4n+4 as place, and leaves the page as it was. A page of 516 bytes is never too short.
+
+   The page of an accepted submission gives back its own derivation and claim. Two bodies read back from an accepted page, put in the place
+   of the submission's own (checker_write) and checked again, yield that page. Bodies read back from another program pass checks 1 to 4 and
+   6 in that place, and may still be refused: with 5 in way j where the guess is no key, with 7 in ways j and k where the guess register
+   serves a premise, and with 8, 9, 10 or 16. */
+uint32_t checker_read_back(const uint8_t *sub, size_t sub_len, const uint8_t *program, size_t program_len, uint8_t *page, size_t page_len);
 
 #ifdef __cplusplus
 }

@@ -12,6 +12,9 @@ static const uint8_t M1[] = {
 };
 static const uint8_t M1_PAGE[] = {0x01, 0x04, 0x01, 0x02, 0x3D, 0x03, 0x00};
 
+/* What M1's page is read back to: its own derivation and claim. */
+static const uint8_t M1_READ_BACK[] = {0x04, 0x02, 0x01, 0x00, 0x01, 0x00, 0x62, 0x00};
+
 /* M1 has no keys with an inverse. */
 static const uint8_t M1_INVERSES[] = {0xFF, 0xFF, 0xFF};
 
@@ -49,6 +52,10 @@ static void try_null(void)
     expect("inverses, no submission", REFUSED(1, 0), checker_inverses(NULL, 0, page, sizeof page));
     expect("inverses, nothing", REFUSED(1, 0), checker_inverses(NULL, 0, NULL, 0));
     expect("inverses, no page", REFUSED(11, sizeof M1_INVERSES), checker_inverses(M1, sizeof M1, NULL, 0));
+    expect("read back, no submission", REFUSED(1, 0), checker_read_back(NULL, 0, M1_PAGE, sizeof M1_PAGE, page, sizeof page));
+    expect("read back, nothing", REFUSED(1, 0), checker_read_back(NULL, 0, NULL, 0, NULL, 0));
+    expect("read back, no program", REFUSED(13, 0), checker_read_back(M1, sizeof M1, NULL, 0, page, sizeof page));
+    expect("read back, no page", REFUSED(11, sizeof M1_READ_BACK), checker_read_back(M1, sizeof M1, M1_PAGE, sizeof M1_PAGE, NULL, 0));
 }
 
 static void try_null_bodies(void)
@@ -95,6 +102,25 @@ static void try_inverses_offset(size_t offset)
     expect("the inverses again", 0, memcmp(page, expected, sizeof page) != 0);
 }
 
+/* The submission, the program and the page for what it is read back to, each this many bytes into a buffer. The bytes before the page and
+   behind it stay. */
+static void try_read_back_offset(size_t offset)
+{
+    enum { LENGTH = sizeof M1_READ_BACK };
+    uint8_t sub[sizeof M1 + 8], program[sizeof M1_PAGE + 8], page[LENGTH + 9] = {0}, expected[LENGTH + 9] = {0};
+    memcpy(sub + offset, M1, sizeof M1);
+    memcpy(program + offset, M1_PAGE, sizeof M1_PAGE);
+    expect("read back, a byte short", REFUSED(11, LENGTH),
+           checker_read_back(sub + offset, sizeof M1, program + offset, sizeof M1_PAGE, page + offset, LENGTH - 1));
+    expect("the page of a refusal", 0, memcmp(page, expected, sizeof page) != 0);
+    memcpy(expected + offset, M1_READ_BACK, LENGTH);
+    for (size_t more = 0; more < 2; more++) {
+        expect("read back", LENGTH,
+               checker_read_back(sub + offset, sizeof M1, program + offset, sizeof M1_PAGE, page + offset, LENGTH + more));
+        expect("the bodies", 0, memcmp(page, expected, sizeof page) != 0);
+    }
+}
+
 int main(void)
 {
     try_null();
@@ -102,6 +128,7 @@ int main(void)
     for (size_t offset = 0; offset < 8; offset++) {
         try_offset(offset);
         try_inverses_offset(offset);
+        try_read_back_offset(offset);
     }
     return failures != 0;
 }

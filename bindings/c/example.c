@@ -28,6 +28,9 @@
 /* The most terms, and so the longest page of inverses. */
 #define MOST_TERMS 250
 
+/* What a program of the most steps is read back to: these and a claim. */
+#define LONGEST_READ_BACK (4 * 128 + 4)
+
 /* The longest submission: the most terms, 64 entries of knowledge, 128 steps and a claim. */
 #define LONGEST (TERMS + 3 * MOST_TERMS + 64 + 4 * 128 + 4)
 
@@ -110,20 +113,34 @@ static void show_deducible(const uint8_t *sub, size_t length)
     }
 }
 
+/* Prints the bytes on a page of which the answer is the count; or the refusal. */
+static void print_page(const char *call, uint32_t answer, const uint8_t *page)
+{
+    printf("%s", call);
+    if (is_refusal(answer)) {
+        printf(" ");
+        print_answer(answer);
+        return;
+    }
+    for (uint32_t at = 0; at < answer; at++)
+        printf(" %u", (unsigned)page[at]);
+    printf("\n");
+}
+
 /* Prints the number of each term's inverse, 255 where none is listed. */
 static void show_inverses(const uint8_t *sub, size_t length)
 {
     uint8_t page[MOST_TERMS];
-    uint32_t terms = checker_inverses(sub, length, page, sizeof page);
-    printf("inverses");
-    if (is_refusal(terms)) {
-        printf(" ");
-        print_answer(terms);
-        return;
-    }
-    for (uint32_t term = 0; term < terms; term++)
-        printf(" %u", (unsigned)page[term]);
-    printf("\n");
+    uint32_t answer = checker_inverses(sub, length, page, sizeof page);
+    print_page("inverses", answer, page);
+}
+
+/* Prints the derivation and the claim that a program is read back to. */
+static void show_read_back(const uint8_t *sub, size_t length, const uint8_t *program, size_t program_length)
+{
+    uint8_t page[LONGEST_READ_BACK];
+    uint32_t answer = checker_read_back(sub, length, program, program_length, page, sizeof page);
+    print_page("read_back", answer, page);
 }
 
 /* Writes the submission of these bodies to a page. */
@@ -138,7 +155,7 @@ static uint32_t show_write(const struct body *bodies, uint8_t *page, size_t page
 }
 
 /* The other calls; and where the submission is accepted, the signals of the program on the page, which has 3N+4 bytes, with the
-   submission's own guess and with a wrong one. */
+   submission's own guess and with a wrong one, and what it is read back to: the submission's own derivation and claim. */
 static void show_calls(const uint8_t *sub, size_t length)
 {
     uint8_t page[PAGE];
@@ -153,6 +170,7 @@ static void show_calls(const uint8_t *sub, size_t length)
     unsigned right = guess(sub);
     show_run(sub, length, right, page, program_length);
     show_run(sub, length, wrong_guess(sub, right), page, program_length);
+    show_read_back(sub, length, page, program_length);
 }
 
 static void show_all(const uint8_t *sub, size_t length)

@@ -34,6 +34,28 @@ impl Bodies {
     pub fn submission(&self) -> Vec<u8> {
         submission(self.bytes())
     }
+
+    /// The first register that a program writes: those before it hold the knowledge and the guess.
+    pub fn first_written(&self) -> usize {
+        self.knowledge.len() + 1
+    }
+
+    /// The same terms and knowledge, with the derivation and the claim that a program was read back
+    /// to.
+    pub fn with(&self, read_back: &[u8]) -> Bodies {
+        let [derivation, claim] = divided(read_back);
+        Bodies {
+            derivation: records(derivation).collect(),
+            claim: claim.try_into().expect("the bytes of one claim"),
+            ..self.clone()
+        }
+    }
+}
+
+/// The derivation and the claim that stand one after the other.
+pub fn divided(read_back: &[u8]) -> [&[u8]; 2] {
+    let (derivation, claim) = read_back.split_at(read_back.len() - Body::Claim.record());
+    [derivation, claim]
 }
 
 /// The name in an atom's record.

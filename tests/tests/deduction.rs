@@ -113,11 +113,12 @@ fn small(submission: &[u8]) -> Option<(Bodies, Vec<Term>)> {
     terms.iter().all(|term| term.size() <= LARGEST).then_some((bodies, terms))
 }
 
+/// So many of them, and until so many terms were deducible by a key that is a hash.
 #[test]
 fn small_submissions_agree_with_the_definition() {
     let mut source = Source::new(11);
     let (mut tried, mut by_hash) = (0, 0);
-    while tried < 1000 {
+    while tried < 1000 || by_hash < 20 {
         let submission = source.next_input().submission;
         let Some((bodies, terms)) = small(&submission) else {
             continue;
@@ -132,5 +133,4 @@ fn small_submissions_agree_with_the_definition() {
         }
         tried += 1;
     }
-    assert!(by_hash > 20, "{by_hash} terms depend on a hash as a key");
 }

@@ -1,15 +1,14 @@
-//! The published examples: text, bytes and verdict belong together.
+//! The published examples: text, bytes and verdict belong together, and programs and what they are read
+//! back to.
 
 use checker_tests::bodies::Bodies;
-use checker_tests::examples::{file, names, submission};
+use checker_tests::examples::{file, names, programs, submission, text, Program};
 use checker_tests::generate::UNLISTED;
-use checker_tests::notation::{assemble, show};
-use checker_tests::reference::{contents, is_wrong_guess, program, verdict, write};
-use checker_tests::tables::{Kind, Rule, LONGEST_SUBMISSION};
-
-fn text(name: &str, extension: &str) -> String {
-    String::from_utf8(file(name, extension)).expect("a text")
-}
+use checker_tests::notation::{assemble, show, show_program};
+use checker_tests::reference::{
+    contents, derivation_and_claim, is_wrong_guess, program, verdict, write, Refusal,
+};
+use checker_tests::tables::{Body, Kind, Rule, LONGEST_SUBMISSION};
 
 #[test]
 fn each_text_assembles_to_its_submission() {
@@ -33,13 +32,47 @@ fn each_text_assembles_to_what_is_written_from_its_bodies() {
 #[test]
 fn each_submission_shows_its_text_without_the_comment() {
     for name in names() {
-        let lines = text(&name, "txt");
-        let canonical: String = lines
-            .lines()
-            .skip_while(|line| line.starts_with('#'))
-            .map(|l| format!("{l}\n"))
-            .collect();
+        let canonical = without_comment(&text(&name, "txt"));
         assert_eq!(show(&submission(&name)), Ok(canonical), "{name}");
+    }
+}
+
+fn without_comment(text: &str) -> String {
+    let lines = text.lines().skip_while(|line| line.starts_with('#'));
+    lines.map(|line| format!("{line}\n")).collect()
+}
+
+#[test]
+fn each_program_shows_its_text_without_the_comment() {
+    for Program { name, over, bytes } in programs() {
+        let bodies = Bodies::read(&submission(&over)).expect("it has its bodies");
+        let canonical = without_comment(&text(&name, "program"));
+        assert_eq!(show_program(&bytes, bodies.first_written()), Some(canonical), "{name}");
+    }
+}
+
+/// The program's refusal; or its derivation and claim, and the verdict on these in the place of the
+/// submission's own.
+fn read_back(program: &Program) -> String {
+    let submission = submission(&program.over);
+    match derivation_and_claim(&submission, &program.bytes) {
+        Ok(bodies) => {
+            let own = Bodies::read(&submission).expect("it has its bodies");
+            let again = own.with(&bodies).submission();
+            let text = show(&again).expect("it has its bodies");
+            let at = text.find(Body::Derivation.word()).expect("the section");
+            let verdict = verdict(&again).lines().next().map(String::from).expect("a line");
+            format!("{}verdict\n  {verdict}\n", &text[at..])
+        }
+        Err(Refusal { reason, place }) => format!("refused {} {place}\n", reason.number()),
+    }
+}
+
+#[test]
+fn each_program_is_read_back() {
+    assert!(programs().len() >= 20);
+    for program in programs() {
+        assert_eq!(read_back(&program), text(&program.name, "back"), "{}", program.name);
     }
 }
 

@@ -1,9 +1,10 @@
-//! The notation: texts with a fault, and submissions of all kinds there and back.
+//! The notation: texts with a fault, and submissions and programs of all kinds there and back.
 
 use checker_tests::bodies::Bodies;
 use checker_tests::examples::submission;
 use checker_tests::generate::Source;
-use checker_tests::notation::{assemble, show};
+use checker_tests::notation::{assemble, assemble_program, show, show_program};
+use checker_tests::reference::{program, verdict};
 use checker_tests::tables::unclaimed;
 
 /// M1 with other words for its parts.
@@ -152,6 +153,103 @@ fn every_submission_that_can_be_shown_assembles_again() {
         if let Ok(text) = show(&submission) {
             assert_eq!(assemble(&text), Ok(submission), "{text}");
             shown += 1;
+        }
+    }
+    assert!(shown > 2000);
+}
+
+/// M1's, as `verdict` prints it.
+const PROGRAM: &str = "\
+accepted 1
+r3 = dec r1 r2
+signal r3 = r0
+";
+
+const FIRST: usize = 3;
+
+#[test]
+fn a_program_is_written_as_verdict_prints_it() {
+    let bytes = vec![1, 4, 1, 2, b'=', 3, 0];
+    let lines = "r3 = dec r1 r2\nsignal r3 = r0\n";
+    assert_eq!(assemble_program(PROGRAM, FIRST), Ok(bytes.clone()));
+    assert_eq!(assemble_program(lines, FIRST), Ok(bytes.clone()));
+    let commented = "\n# cut\n  r3  =  dec r1  r2\n\n# from a paper\nsignal r3 = r0";
+    assert_eq!(assemble_program(commented, FIRST), Ok(bytes.clone()));
+    assert_eq!(show_program(&bytes, FIRST).as_deref(), Some(lines));
+    let lines = "r9 = hash r1\nr10 = fst r9\nsignal r10 hasinv r0\n";
+    let bytes = vec![2, 7, 1, 0, 1, 9, 0, b'i', 10, 0];
+    assert_eq!(assemble_program(lines, 9), Ok(bytes.clone()));
+    assert_eq!(show_program(&bytes, 9).as_deref(), Some(lines));
+    assert_eq!(assemble_program("accepted 0\nsignal r1 = r0", 9), Ok(vec![0, b'=', 1, 0]));
+}
+
+#[test]
+fn a_fault_of_a_program_names_its_line() {
+    let faults = [
+        ("accepted 1", "accepted 2", 1, "`accepted 1` is expected"),
+        ("accepted 1", "accepted", 1, "`accepted 1` is expected"),
+        ("accepted 1", "refused 1 0", 1, "an instruction is `REGISTER = RULE REGISTERS`"),
+        ("r3 = dec", "r2 = dec", 2, "r3 is expected before `=`"),
+        ("r3 = dec", "3 = dec", 2, "r3 is expected before `=`"),
+        ("dec r1 r2", "xor r1 r2", 2, "`xor` is no rule"),
+        ("dec r1 r2", "dec(r1, r2)", 2, "`dec(r1,` is no rule"),
+        ("dec r1 r2", "dec r1", 2, "two registers are expected"),
+        ("dec r1 r2", "dec r1 r2 r0", 2, "two registers are expected"),
+        ("dec r1 r2", "fst", 2, "one register is expected"),
+        ("dec r1 r2", "rule9 r1", 2, "two registers are expected"),
+        ("dec r1 r2", "dec r1 2", 2, "`2` is no register"),
+        ("dec r1 r2", "dec r1 r256", 2, "`256` is no number below 256"),
+        ("signal r3 = r0\n", "", 2, "the line `signal` is expected at the end"),
+        ("signal r3 = r0", "signal r3 = r0\nr4 = fst r3", 4, "no line is expected after `signal`"),
+        ("signal r3 = r0", "signal r3 = r0\nsignal r3 = r0", 4, "no line is expected"),
+        ("signal r3 = r0", "signal r3 eq r0", 3, "`eq` is no test"),
+        ("signal r3 = r0", "signal r3 =", 3, "two registers are expected"),
+        ("signal r3 = r0", "signal", 3, "`` is no test"),
+    ];
+    for (before, after, line, message) in faults {
+        let text = PROGRAM.replacen(before, after, 1);
+        let fault = assemble_program(&text, FIRST).expect_err(after);
+        assert_eq!(fault.line, line, "{after}: {fault}");
+        assert!(fault.message.contains(message), "{after}: {fault}");
+    }
+    let fault = assemble_program("", FIRST).unwrap_err();
+    assert_eq!((fault.line, fault.message.contains("`signal` is expected")), (0, true));
+}
+
+#[test]
+fn what_a_program_has_no_words_for_is_shown_in_numbers() {
+    let (rule, test) = (unclaimed::RULES[0], unclaimed::TESTS[0]);
+    let bytes = vec![3, rule, 200, 0, 1, 1, 7, 7, 1, 0, test, 0, 255];
+    let lines = format!(
+        "r3 = rule{rule} r200 r0\nr4 = fst r1 r7\nr5 = hash r1\nsignal r0 test{test} r255\n"
+    );
+    assert_eq!(show_program(&bytes, FIRST), Some(lines.clone()));
+    assert_eq!(assemble_program(&lines, FIRST), Ok(bytes.clone()));
+    for length in [0, 1, 4, 12] {
+        assert_eq!(show_program(&bytes[..length], FIRST), None, "{length}");
+    }
+    assert_eq!(show_program(&[&bytes[..], &[0]].concat(), FIRST), None);
+}
+
+#[test]
+fn every_program_that_can_be_shown_assembles_again() {
+    let mut source = Source::new(6);
+    let [mut shown, mut accepted] = [0; 2];
+    while accepted < 500 {
+        let input = source.next_input();
+        let Ok(bodies) = Bodies::read(&input.submission) else { continue };
+        let first_written = bodies.first_written();
+        for sent in &input.sent {
+            if let Some(text) = show_program(&sent.program, first_written) {
+                let assembled = assemble_program(&text, first_written);
+                assert_eq!(assembled.as_ref(), Ok(&sent.program), "{text}");
+                shown += 1;
+            }
+        }
+        if let Ok(own) = program(&input.submission) {
+            let lines = verdict(&input.submission);
+            assert_eq!(assemble_program(&lines, first_written), Ok(own), "{lines}");
+            accepted += 1;
         }
     }
     assert!(shown > 2000);

@@ -2,12 +2,13 @@
 
 use checker_tests::bodies::Bodies;
 use checker_tests::generate::shapes::{
-    atoms, built, filled, hash_key_chain, largest, largest_built, largest_deducible,
+    atoms, built, filled, hash_key_chain, largest, largest_built, largest_deducible, listed_last,
     locked_by_hashes, nested, nested_hash_keys, nested_pairs, private_key_chain, tower, Naming,
     Nesting, Order, Secrets,
 };
-use checker_tests::reference::{deducible, verdict};
-use checker_tests::tables::{Body, Kind, Way};
+use checker_tests::generate::{astray, repeated};
+use checker_tests::reference::{deducible, derivation_and_claim, verdict, Refusal};
+use checker_tests::tables::{Body, Kind, Reason, Rule, Way, LONGEST_READ_BACK};
 
 fn first_line(bodies: &Bodies) -> String {
     verdict(&bodies.submission()).lines().next().unwrap().to_string()
@@ -151,5 +152,25 @@ fn a_filled_shape_has_so_many_terms() {
             assert_eq!(first_line(&bodies), "accepted 1");
             assert!(!are_deducible(&bodies, [terms - 1]) && are_deducible(&bodies, [terms - 6]));
         }
+    }
+}
+
+/// Each instruction of a longest program builds the next of the terms that are listed last. Changed, its
+/// last one builds none.
+#[test]
+fn what_a_program_builds_is_listed_last() {
+    for (rule, nesting) in [(Rule::Pair, Nesting::DoublingPairs), (Rule::Hash, Nesting::Hashes)] {
+        let bodies = listed_last(nesting);
+        assert_eq!((bodies.terms.len(), bodies.knowledge.len()), (250, 64));
+        assert_eq!(first_line(&bodies), "refused 16 0");
+        let program = repeated(rule, 64, |register| register);
+        let read_back = derivation_and_claim(&bodies.submission(), &program).unwrap();
+        assert_eq!(read_back.len(), LONGEST_READ_BACK);
+        let steps = bodies.with(&read_back).derivation;
+        let conclusions: Vec<u8> = steps.iter().map(|step| step[3]).collect();
+        assert_eq!(conclusions, (122..250).map(|term| term as u8).collect::<Vec<u8>>());
+        let off = Refusal { reason: Reason::OffTheTable, place: 64 + 128 };
+        let found = derivation_and_claim(&bodies.submission(), &astray(&program, 64));
+        assert_eq!(found, Err(off));
     }
 }

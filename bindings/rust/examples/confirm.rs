@@ -13,8 +13,8 @@ use std::fs;
 use std::io::{self, Write};
 use std::process::ExitCode;
 
-use checker::{check, deducible, inverses, run, write, Refusal};
-use checker::{LONGEST_PROGRAM, LONGEST_SUBMISSION, MOST_TERMS};
+use checker::{check, deducible, inverses, read_back, run, write, ReadBack, Refusal};
+use checker::{LONGEST_PROGRAM, LONGEST_READ_BACK, LONGEST_SUBMISSION, MOST_TERMS};
 
 fn main() -> ExitCode {
     match confirm() {
@@ -65,7 +65,10 @@ fn show_calls(submission: &[u8], out: &mut impl Write) -> io::Result<()> {
     show_deducible(submission, out)?;
     show_inverses(submission, out)?;
     match checked {
-        Ok(program) => show_signals(submission, program, out),
+        Ok(program) => {
+            show_signals(submission, program, out)?;
+            show_read_back(submission, program, out)
+        }
         Err(_) => Ok(()),
     }
 }
@@ -85,12 +88,24 @@ fn show_deducible(submission: &[u8], out: &mut impl Write) -> io::Result<()> {
 /// Prints the number of each term's inverse, 255 where none is listed.
 fn show_inverses(submission: &[u8], out: &mut impl Write) -> io::Result<()> {
     match inverses(submission, &mut [0; MOST_TERMS]) {
-        Ok(numbers) => {
-            let numbers: Vec<String> = numbers.iter().map(u8::to_string).collect();
-            writeln!(out, "inverses {}", numbers.join(" "))
-        }
+        Ok(numbers) => writeln!(out, "inverses {}", spaced(numbers)),
         Err(refusal) => writeln!(out, "inverses {refusal}"),
     }
+}
+
+/// Prints the derivation and the claim that a program is read back to: those of the submission, where
+/// the program is that of an acceptance.
+fn show_read_back(submission: &[u8], program: &[u8], out: &mut impl Write) -> io::Result<()> {
+    match read_back(submission, program, &mut [0; LONGEST_READ_BACK]) {
+        Ok(ReadBack { derivation, claim }) => {
+            writeln!(out, "read_back {}", spaced(&[derivation, claim].concat()))
+        }
+        Err(refusal) => writeln!(out, "read_back {refusal}"),
+    }
+}
+
+fn spaced(bytes: &[u8]) -> String {
+    bytes.iter().map(u8::to_string).collect::<Vec<_>>().join(" ")
 }
 
 /// Runs the program of an accepted submission with its own guess, and with a wrong one.

@@ -1,4 +1,4 @@
-//! The checker's five calls, safe to call from Rust.
+//! The checker's six calls, safe to call from Rust.
 //!
 //! Every call takes any bytes and ends. What an answer means is proved of the calls themselves; of
 //! this wrapper nothing is proved, and it only turns the one number that a call answers into a
@@ -12,6 +12,10 @@ use std::fmt;
 
 const MOST_STEPS: usize = 128;
 
+/// The bytes of a claim, and of a step.
+const CLAIM: usize = 4;
+const STEP: usize = 4;
+
 /// A page of this length is never too short for [`inverses`]: one byte for each of the most terms.
 pub const MOST_TERMS: usize = 250;
 
@@ -23,7 +27,10 @@ pub const LONGEST_PROGRAM: usize = program_length(MOST_STEPS);
 
 /// A page of this length is never too short for [`write`]: the contents, the most terms, 64 entries
 /// of knowledge, the most steps and the claim.
-pub const LONGEST_SUBMISSION: usize = 16 + 3 * MOST_TERMS + 64 + 4 * MOST_STEPS + 4;
+pub const LONGEST_SUBMISSION: usize = 16 + 3 * MOST_TERMS + 64 + STEP * MOST_STEPS + CLAIM;
+
+/// A page of this length is never too short for [`read_back`]: the most steps and the claim.
+pub const LONGEST_READ_BACK: usize = STEP * MOST_STEPS + CLAIM;
 
 /// A refusal, by a number and a place of `docs/VERDICTS.md`.
 #[derive(Clone, Copy, PartialEq, Eq, Debug)]
@@ -99,6 +106,33 @@ pub fn write<'page>(
 pub fn inverses<'page>(submission: &[u8], page: &'page mut [u8]) -> Result<&'page [u8], Refusal> {
     let terms = decoded(raw::inverses(submission, page))?;
     Ok(&page[..usize::from(terms)])
+}
+
+/// The bodies that [`read_back`] gives.
+#[derive(Clone, Copy, PartialEq, Eq, Debug)]
+pub struct ReadBack<'page> {
+    pub derivation: &'page [u8],
+    pub claim: &'page [u8],
+}
+
+/// Reads a program over the submission's terms, knowledge and guess back to a derivation and a claim,
+/// and writes these to the page, one after the other.
+///
+/// An acceptance gives the two bodies, for [`write`] beside the submission's own terms and knowledge.
+/// They are the first 4n+4 bytes of the page, n the program's count of steps, and its other bytes are
+/// as before. How the test is read, and with which numbers [`check`] may still refuse the two bodies,
+/// is said in `include/checker.h`. A refusal is 1 to 5, 13, then 17 where a register's term is not
+/// listed, with the first such register as place, then 18 where the test makes no claim, then 11, with
+/// 4n+4 as place, and leaves the whole page as it was. A page of [`LONGEST_READ_BACK`] bytes is never
+/// too short.
+pub fn read_back<'page>(
+    submission: &[u8],
+    program: &[u8],
+    page: &'page mut [u8],
+) -> Result<ReadBack<'page>, Refusal> {
+    let length = usize::from(decoded(raw::read_back(submission, program, page))?);
+    let (derivation, claim) = page[..length].split_at(length - CLAIM);
+    Ok(ReadBack { derivation, claim })
 }
 
 /// The value of an answer, or its refusal.

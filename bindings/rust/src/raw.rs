@@ -28,6 +28,14 @@ extern "C" {
         page_len: usize,
     ) -> u32;
     fn checker_inverses(sub: *const u8, sub_len: usize, page: *mut u8, page_len: usize) -> u32;
+    fn checker_read_back(
+        sub: *const u8,
+        sub_len: usize,
+        program: *const u8,
+        program_len: usize,
+        page: *mut u8,
+        page_len: usize,
+    ) -> u32;
 }
 
 /// Checks a submission: the count N of its steps, or a refusal, 1 to 11 or 16.
@@ -85,5 +93,22 @@ pub fn inverses(submission: &[u8], page: &mut [u8]) -> u32 {
     // refers to, is written.
     unsafe {
         checker_inverses(submission.as_ptr(), submission.len(), page.as_mut_ptr(), page.len())
+    }
+}
+
+/// Reads a program back to a derivation and a claim, and writes these to the page: the count 4n+4 of
+/// bytes written, n the program's count of steps, or a refusal, 1 to 5, 13, 17, 18 or 11.
+pub fn read_back(submission: &[u8], program: &[u8], page: &mut [u8]) -> u32 {
+    // SAFETY: each buffer is passed with its own length, and only the page, which nothing else
+    // refers to, is written.
+    unsafe {
+        checker_read_back(
+            submission.as_ptr(),
+            submission.len(),
+            program.as_ptr(),
+            program.len(),
+            page.as_mut_ptr(),
+            page.len(),
+        )
     }
 }

@@ -14,9 +14,11 @@ use checker::raw;
 use checker_tests::bodies::{self, Bodies};
 use checker_tests::examples;
 use checker_tests::generate::shapes::{self, Naming, Nesting, Order, Secrets};
-use checker_tests::generate::{padded, repeated, shortest, Form, UNLISTED};
+use checker_tests::generate::{astray, padded, repeated, shortest, Form, UNLISTED};
 use checker_tests::reference::{self, code, Guesses};
-use checker_tests::tables::{Body, Kind, Rule, Test, Way, LONGEST_PROGRAM, LONGEST_SUBMISSION};
+use checker_tests::tables::{
+    Body, Kind, Rule, Test, Way, LONGEST_PROGRAM, LONGEST_READ_BACK, LONGEST_SUBMISSION,
+};
 
 /// The shortest time to measure, and how many measurements the fastest is taken of. Short ones end
 /// before another process gets the processor.
@@ -58,6 +60,9 @@ fn main() {
     measure_write("70,000 records in each body, refused", &Form::zeros(70_000));
     for (title, submission) in key_tables() {
         measure_inverses(title, &submission);
+    }
+    for (title, submission, program) in sent_programs() {
+        measure_read_back(&title, &submission, &program);
     }
     for name in ["M1", TYPICAL] {
         measure_program(name, &verdict);
@@ -173,6 +178,34 @@ fn key_tables() -> Vec<(&'static str, Vec<u8>)> {
     ]
 }
 
+/// Programs to read back, each with its title and its submission: own pages, long ones over terms that
+/// are listed last, and the same with a last term that is not listed.
+fn sent_programs() -> Vec<(String, Vec<u8>, Vec<u8>)> {
+    let own = [
+        ("M1", examples::submission("M1")),
+        ("typical (Needham-Schroeder)", examples::submission(TYPICAL)),
+        ("largest accepted", shapes::largest().submission()),
+        ("249 hashes, 128 steps", hash_chain(Body::Derivation.most())),
+    ];
+    let mut sent = Vec::new();
+    for (title, submission) in own {
+        let program = own_page(&submission);
+        sent.push((format!("{title}, its own page"), submission, program));
+    }
+    for (title, rule, nesting) in [
+        ("128 times pair r r, listed last", Rule::Pair, Nesting::DoublingPairs),
+        ("128 times hash r, listed last", Rule::Hash, Nesting::Hashes),
+    ] {
+        let bodies = shapes::listed_last(nesting);
+        let guess = bodies.knowledge.len() as u8;
+        let program = repeated(rule, guess, |register| register);
+        let strayed = astray(&program, guess);
+        sent.push((title.to_string(), bodies.submission(), program));
+        sent.push((format!("{title}, but for the last"), bodies.submission(), strayed));
+    }
+    sent
+}
+
 /// A chain of hashes of the guess up to the limit on terms, of which so many are steps.
 fn hash_chain(steps: usize) -> Vec<u8> {
     shapes::built(Nesting::Hashes, Body::Terms.most(), steps).submission()
@@ -211,15 +244,19 @@ fn measure_repeated(title: &str, rule: Rule, bodies: &Bodies) {
     measure_run(title, &bodies.submission(), &program);
 }
 
+/// What the check writes on the page.
+fn own_page(submission: &[u8]) -> Vec<u8> {
+    reference::program(submission).expect("an accepted submission")
+}
+
 /// Runs what the check writes on the page.
 fn measure_own_page(title: &str, submission: &[u8]) {
-    let program = reference::program(submission).expect("an accepted submission");
-    measure_run(&format!("{title}, its own page"), submission, &program);
+    measure_run(&format!("{title}, its own page"), submission, &own_page(submission));
 }
 
 /// Runs it with a wrong guess that is not listed, and with a stale name.
 fn measure_other_names(title: &str, submission: &[u8]) {
-    let program = reference::program(submission).expect("an accepted submission");
+    let program = own_page(submission);
     for (word, name) in [("fresh", UNLISTED), ("stale", stale_name(submission))] {
         let title = format!("{title}, its own page, {word} name");
         measure_name(&title, submission, name, &program);
@@ -273,6 +310,14 @@ fn measure_inverses(title: &str, submission: &[u8]) {
     let checker = answered(|| raw::inverses(black_box(submission), &mut page));
     let reference = nanoseconds(|| code(reference::inverses(black_box(submission), &mut page)));
     print_row("inverses", title, submission.len(), checker, reference);
+}
+
+fn measure_read_back(title: &str, submission: &[u8], program: &[u8]) {
+    let mut page = [0; LONGEST_READ_BACK];
+    let checker = answered(|| raw::read_back(black_box(submission), program, &mut page));
+    let reference =
+        nanoseconds(|| code(reference::read_back(black_box(submission), program, &mut page)));
+    print_row("read_back", title, submission.len() + program.len(), checker, reference);
 }
 
 /// Starts the program on an example, and the reference's program, which is built beside this one.

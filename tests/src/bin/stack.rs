@@ -73,6 +73,10 @@ fn needs(stack: &mut Stack, input: &Input) -> [usize; Call::ALL.len()] {
             let mut page = page.clone();
             stack.used_by(|| raw::inverses(&input.submission, &mut page))
         }),
+        Call::ReadBack => most(&input.sent, |sent| {
+            let mut page = sent.page.clone();
+            stack.used_by(|| raw::read_back(&input.submission, &sent.program, &mut page))
+        }),
     })
 }
 

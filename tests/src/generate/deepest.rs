@@ -4,9 +4,12 @@
 use super::names::Names;
 use super::program::{repeated, shortest};
 use super::shapes::{self, Naming, Nesting};
-use super::{claimed_term, Form, Input, UNLISTED};
+use super::{astray, claimed_term, Form, Input, Sent, UNLISTED};
 use crate::bodies::Bodies;
-use crate::tables::{Body, Kind, Rule, Test, Way, LONGEST_PROGRAM, LONGEST_SUBMISSION};
+use crate::reference;
+use crate::tables::{
+    Body, Kind, Rule, Test, Way, LONGEST_PROGRAM, LONGEST_READ_BACK, LONGEST_SUBMISSION,
+};
 
 /// The inputs, each with a title.
 pub fn deepest() -> Vec<(String, Input)> {
@@ -24,6 +27,8 @@ pub fn deepest() -> Vec<(String, Input)> {
         ("hashes of the guess".to_string(), shapes::built(Nesting::Hashes, Body::Terms.most(), 1)),
         ("a key of hashes of a known atom".to_string(), shapes::locked_by_hashes(true)),
         ("a key of hashes of a hidden atom".to_string(), shapes::locked_by_hashes(false)),
+        ("doubling pairs listed last".to_string(), shapes::listed_last(Nesting::DoublingPairs)),
+        ("hashes listed last".to_string(), shapes::listed_last(Nesting::Hashes)),
         (
             "pairs of keys up to the limit".to_string(),
             shapes::atoms(&[Kind::Public, Kind::Private], Naming::OneLowByte),
@@ -54,8 +59,22 @@ fn input(bodies: &Bodies) -> Input {
         names,
         forms: vec![Form::new(bodies.bytes(), LONGEST_SUBMISSION)],
         inverse_pages: vec![vec![0xA5; Body::Terms.most()]],
+        sent: sent(bodies, &submission),
         submission,
     }
+}
+
+/// The submission's own program, where it is accepted, as it is and with another last instruction; and
+/// the long programs.
+fn sent(bodies: &Bodies, submission: &[u8]) -> Vec<Sent> {
+    let guess = bodies.knowledge.len() as u8;
+    let own = reference::program(submission).ok();
+    let changed = own.as_ref().map(|own| astray(own, guess));
+    own.into_iter()
+        .chain(changed)
+        .chain(programs(bodies))
+        .map(|program| Sent { program, page: vec![0xA5; LONGEST_READ_BACK] })
+        .collect()
 }
 
 /// Long programs with the guess's own name, which comes first, and with a fresh one; and a short

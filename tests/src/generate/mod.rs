@@ -10,6 +10,7 @@ mod names;
 mod program;
 mod protocol;
 mod random;
+mod sent;
 pub mod shapes;
 mod steps;
 mod table;
@@ -27,6 +28,7 @@ pub use deepest::deepest;
 pub use form::Form;
 pub use limits::padded;
 pub use program::{repeated, shortest};
+pub use sent::{astray, Sent};
 pub use steps::premises;
 pub use table::Table;
 
@@ -47,6 +49,9 @@ pub struct Input {
     pub forms: Vec<Form>,
     /// Pages before the inverses are written.
     pub inverse_pages: Vec<Vec<u8>>,
+    /// Programs to read back: first the submission's own, where it is accepted, on a page that is long
+    /// enough.
+    pub sent: Vec<Sent>,
 }
 
 /// A name that no example and no deepest input lists, and so that of a wrong guess.
@@ -76,22 +81,27 @@ impl Source {
     pub fn input(&mut self, submission: Vec<u8>) -> Input {
         let names = Names::of(&submission);
         let tried = names.tried(&mut self.random);
+        let own = reference::program(&submission).ok();
         Input {
             page: self.page(&submission),
             asked: self.asked(&submission),
-            runs: self.runs(&submission, &names, &tried),
+            runs: self.runs(&submission, &names, &tried, own.as_deref()),
             names: tried,
             forms: self.forms(&submission),
             inverse_pages: self.inverse_pages(&submission),
+            sent: sent::sent(&mut self.random, &submission, own.as_deref()),
             submission,
         }
     }
 
-    /// What to try with a published example: the page is long enough, and a wrong guess is run.
-    pub fn example(&mut self, submission: Vec<u8>) -> Input {
+    /// What to try with a published example: the page is long enough, a wrong guess is run, and the
+    /// programs that are published with it are read back.
+    pub fn example(&mut self, submission: Vec<u8>, programs: Vec<Vec<u8>>) -> Input {
         let mut input = self.input(submission);
         input.page = self.random.bytes(LONGEST_PROGRAM);
         input.names.push(UNLISTED);
+        let sent = programs.into_iter().map(|program| Sent::with_room(&mut self.random, program));
+        input.sent.extend(sent);
         input
     }
 
@@ -209,15 +219,21 @@ impl Source {
         asked
     }
 
-    /// Runs with the submission's own program, changed ones and others, each with one of its names;
-    /// and with a short program, with each of the names that are tried.
-    fn runs(&mut self, submission: &[u8], names: &Names, tried: &[u16]) -> Vec<(u16, Vec<u8>)> {
+    /// Runs with the submission's own program, if it is accepted, changed ones and others, each with one
+    /// of its names; and with a short program, with each of the names that are tried.
+    fn runs(
+        &mut self,
+        submission: &[u8],
+        names: &Names,
+        tried: &[u16],
+        own: Option<&[u8]>,
+    ) -> Vec<(u16, Vec<u8>)> {
         let registers = Registers::of(&Bodies::read(submission).unwrap_or_default());
         let valid = program::valid(&mut self.random, &registers);
         let mut programs = vec![program::damaged(&mut self.random, &valid), valid];
-        if let Ok(own) = reference::program(submission) {
-            programs.push(program::damaged(&mut self.random, &own));
-            programs.push(own);
+        if let Some(own) = own {
+            programs.push(program::damaged(&mut self.random, own));
+            programs.push(own.to_vec());
         }
         let short = program::short(&mut self.random, &registers);
         let named = programs.into_iter().map(|program| (names.one(&mut self.random), program));

@@ -10,7 +10,7 @@ use crate::tables::{
 
 /// The first registers of a submission: how many, and which hold keys that are inverse.
 pub struct Registers {
-    count: usize,
+    pub count: usize,
     inverse: Vec<[u8; 2]>,
 }
 
@@ -45,7 +45,7 @@ pub fn valid(random: &mut Random, registers: &Registers) -> Vec<u8> {
         writer.single();
     }
     let test = writer.test();
-    [&[count as u8], writer.instructions.as_flattened(), &test].concat()
+    assembled(&writer.instructions, test)
 }
 
 /// A program without instructions that tests the guess's register beside any.
@@ -56,11 +56,22 @@ pub fn short(random: &mut Random, registers: &Registers) -> Vec<u8> {
 
 /// No instructions, and the test.
 pub fn shortest(test: Test, registers: [u8; 2]) -> Vec<u8> {
-    [&[0][..], &tested(test, registers)].concat()
+    assembled(&[], tested(test, registers))
+}
+
+/// The instructions, with their count before them and the test behind them.
+pub fn assembled(instructions: &[[u8; INSTRUCTION_SIZE]], test: [u8; INSTRUCTION_SIZE]) -> Vec<u8> {
+    [&[instructions.len() as u8], instructions.as_flattened(), &test].concat()
+}
+
+/// The rule over as many of the registers as it uses.
+pub fn instruction(rule: Rule, registers: [u8; 2]) -> [u8; INSTRUCTION_SIZE] {
+    let [first, second] = padded(&registers[..rule.operands()]);
+    [rule.number(), first, second]
 }
 
 /// The test of as many of the registers as it names.
-fn tested(test: Test, registers: [u8; 2]) -> [u8; INSTRUCTION_SIZE] {
+pub fn tested(test: Test, registers: [u8; 2]) -> [u8; INSTRUCTION_SIZE] {
     let [first, second] = padded(&registers[..test.registers()]);
     [test.letter(), first, second]
 }
@@ -70,15 +81,9 @@ fn tested(test: Test, registers: [u8; 2]) -> [u8; INSTRUCTION_SIZE] {
 /// last two results.
 pub fn repeated(rule: Rule, guess: u8, second: impl Fn(u8) -> u8) -> Vec<u8> {
     let last = guess + MOST_INSTRUCTIONS as u8;
-    let instructions: Vec<[u8; INSTRUCTION_SIZE]> = (guess..last)
-        .map(|register| {
-            let operands = [register, second(register)];
-            let [first, second] = padded(&operands[..rule.operands()]);
-            [rule.number(), first, second]
-        })
-        .collect();
-    let test = [Test::Equal.letter(), last, last - 1];
-    [&[MOST_INSTRUCTIONS as u8], instructions.as_flattened(), &test].concat()
+    let instructions: Vec<_> =
+        (guess..last).map(|register| instruction(rule, [register, second(register)])).collect();
+    assembled(&instructions, tested(Test::Equal, [last, last - 1]))
 }
 
 /// A program with something changed, or plain bytes.
@@ -206,8 +211,7 @@ impl Writer<'_> {
     /// Writes the rule over as many of the registers as it uses. Answers the result's register.
     fn emit(&mut self, rule: Rule, registers: [u8; 2]) -> u8 {
         let result = self.written();
-        let [first, second] = padded(&registers[..rule.operands()]);
-        self.instructions.push([rule.number(), first, second]);
+        self.instructions.push(instruction(rule, registers));
         result
     }
 

@@ -41,8 +41,10 @@ fn one_protocol(random: &mut Random, size: &Size, way: Way) -> Bodies {
     }
     let telling = telling_messages(random, &mut table, guess, way);
     let mut knowledge = overheard(random, &table, guess, &telling, way);
-    if random.chance(5) {
-        forget(&table, guess, &mut knowledge);
+    match random.weighted(&[94, 5, 1]) {
+        0 => (),
+        1 => forget(&table, guess, &mut knowledge),
+        _ => knowledge.clear(),
     }
     let derivation = walk(random, &table, &knowledge, guess, way, size.steps);
     let mut bodies = Bodies { terms: table.records.clone(), knowledge, derivation, claim: [0; 4] };

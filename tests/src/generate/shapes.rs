@@ -173,6 +173,25 @@ pub fn largest_built(nesting: Nesting) -> Bodies {
     padded(&bodies, Body::Terms.most(), Body::Knowledge.most(), steps)
 }
 
+/// The guess, then fresh atoms, of which as many as can be are known, then compounds nested around the
+/// guess, one for each instruction that a program may have, up to the limit on terms. There is no step,
+/// and check 16 refuses the claim.
+pub fn listed_last(nesting: Nesting) -> Bodies {
+    let mut table = Table::default();
+    let guess = table.atom(Kind::Plain, 0);
+    let beside = table.atom(nesting.beside(), 0);
+    let most = Body::Terms.most();
+    let fresh = most - Body::Derivation.most() - table.records.len();
+    let atoms: Vec<u8> = (FRESH..).take(fresh).map(|name| table.atom(Kind::Plain, name)).collect();
+    nesting.nest(&mut table, guess, beside, most);
+    Bodies {
+        terms: table.records,
+        knowledge: atoms.into_iter().take(Body::Knowledge.most()).collect(),
+        derivation: vec![],
+        claim: [guess, IN_KNOWLEDGE, Way::DeducibleGuess.letter(), 0],
+    }
+}
+
 /// How a term is nested: what is built of the former term and an atom beside it.
 #[derive(Clone, Copy)]
 pub enum Nesting {

@@ -20,7 +20,7 @@ impl fmt::Display for Fault {
     }
 }
 
-type Parsed<T> = Result<T, String>;
+pub type Parsed<T> = Result<T, String>;
 
 /// The bytes of the submission that the text describes.
 pub fn assemble(text: &str) -> Result<Vec<u8>, Fault> {
@@ -35,21 +35,25 @@ pub fn assemble(text: &str) -> Result<Vec<u8>, Fault> {
     Ok(bodies.submission())
 }
 
+/// The lines of a text with their numbers, without blank ones and comments.
+pub fn lines(text: &str) -> impl Iterator<Item = (usize, &str)> {
+    text.lines()
+        .enumerate()
+        .map(|(index, line)| (index + 1, line.trim()))
+        .filter(|(_, line)| !line.is_empty() && !line.starts_with('#'))
+}
+
 /// A section: its heading's line number, and its lines with theirs.
 struct Section<'a> {
     heading: usize,
     lines: Vec<(usize, &'a str)>,
 }
 
-/// The lines under each heading, without blank lines and comments.
+/// The lines under each heading.
 fn sections(text: &str) -> Result<[Section<'_>; Body::ALL.len()], Fault> {
     let headings = Body::ALL.map(Body::word);
     let mut found: Vec<Section> = Vec::new();
-    for (index, line) in text.lines().enumerate() {
-        let (number, line) = (index + 1, line.trim());
-        if line.is_empty() || line.starts_with('#') {
-            continue;
-        }
+    for (number, line) in lines(text) {
         if headings.get(found.len()) == Some(&line) {
             found.push(Section { heading: number, lines: Vec::new() });
         } else if let Some(section) = found.last_mut().filter(|_| !headings.contains(&line)) {
@@ -248,7 +252,7 @@ fn label(text: &str) -> Parsed<String> {
     Ok(text.to_string())
 }
 
-fn rule_number(word: &str) -> Parsed<u8> {
+pub fn rule_number(word: &str) -> Parsed<u8> {
     match (Rule::from_word(word), word.strip_prefix("rule")) {
         (Some(rule), _) => Ok(rule.number()),
         (None, Some(number)) => parse_byte(number),
@@ -270,6 +274,6 @@ fn parse_step(text: &str) -> Parsed<u8> {
     parse_byte(text).map_err(|fault| format!("{fault}, nor `{ENTRY}`"))
 }
 
-fn parse_byte(text: &str) -> Parsed<u8> {
+pub fn parse_byte(text: &str) -> Parsed<u8> {
     text.parse().map_err(|_| format!("`{text}` is no number below 256"))
 }

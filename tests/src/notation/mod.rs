@@ -1,4 +1,6 @@
-//! A readable text for submissions.
+//! A readable text for submissions, and one for register programs.
+//!
+//! # Submissions
 //!
 //! Four sections in this order: `terms`, `knowledge`, `derivation`, `claim`. Blank lines, and
 //! lines that start with `#`, are passed over.
@@ -17,12 +19,26 @@
 //! term record, `rule9(X, Y)` a rule, and `way 9` a way.
 //!
 //! `show` writes the canonical layout: labels are `t` and the term's number, and no comments.
+//!
+//! # Programs
+//!
+//! The lines that `verdict` prints, in which blank lines and comments are passed over too:
+//! `rR = RULE rR rR`, with one register where the rule uses one, and at the end `signal rR = rR` or
+//! `signal rR hasinv rR`. A first line `accepted N` may stand there, with the count of the instructions.
+//! The bytes don't have the registers that are written: they follow one another, and the first is the
+//! one after the guess's. So what goes with a program is the submission, or how many entries its
+//! knowledge has.
+//!
+//! Here too nothing else is judged: any register below 256 may be read, `rule9` is a rule, and `test9`
+//! a test, and a second register that is not used is shown where it is not 0.
 
 mod assemble;
 mod name;
+mod program;
 mod show;
 
 pub use assemble::{assemble, Fault};
+pub use program::{assemble_program, show_program};
 pub use show::show;
 
 use crate::tables::{Body, Kind};

@@ -11,6 +11,7 @@ mod inverses;
 mod machine;
 mod parts;
 mod program;
+mod read_back;
 mod refusal;
 mod rule;
 mod submission;
@@ -99,6 +100,21 @@ pub fn inverses(submission: &[u8], page: &mut [u8]) -> Checked<u8> {
     let numbers = inverses::numbers(&submission.terms);
     put(page, &numbers)?;
     Ok(u8::try_from(numbers.len()).expect("check 2 leaves a count of one byte"))
+}
+
+/// Reads a program back and writes its derivation, then its claim, on the page. An acceptance carries
+/// their length.
+pub fn read_back(submission: &[u8], program: &[u8], page: &mut [u8]) -> Checked<u16> {
+    let bodies = derivation_and_claim(submission, program)?;
+    put(page, &bodies)?;
+    Ok(u16::try_from(bodies.len()).expect("check 13 leaves short programs"))
+}
+
+/// What reading back writes on a page that is long enough.
+pub fn derivation_and_claim(submission: &[u8], program: &[u8]) -> Checked<Vec<u8>> {
+    let mut submission = Submission::read(submission)?;
+    let own = submission.claim()?;
+    read_back::bodies(&mut submission, &own, program)
 }
 
 /// What the program `verdict` prints.

@@ -181,6 +181,6 @@ impl<'a> Registers<'a> {
     }
 }
 
-fn byte(number: usize) -> u8 {
-    u8::try_from(number).expect("registers and counts are below 256")
+pub fn byte(number: usize) -> u8 {
+    u8::try_from(number).expect("registers, counts and terms are below 256")
 }

@@ -25,4 +25,8 @@ table! {
     Inverses  { word: "inverses",  refusals: &[
         Reason::Contents, Reason::Count, Reason::Term, Reason::Knowledge, Reason::Page,
     ] }
+    ReadBack  { word: "read_back", refusals: &[
+        Reason::Contents, Reason::Count, Reason::Term, Reason::Knowledge, Reason::Claim, Reason::Program,
+        Reason::OffTheTable, Reason::NoClaim, Reason::Page,
+    ] }
 }

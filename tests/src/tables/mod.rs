@@ -45,7 +45,10 @@ mod way;
 pub use body::{Body, CONTENTS_SIZE, ENTRY_SIZE, LONGEST_SUBMISSION};
 pub use call::Call;
 pub use kind::{Kind, NO_INVERSE};
-pub use program::{program_length, Test, INSTRUCTION_SIZE, LONGEST_PROGRAM, MOST_INSTRUCTIONS};
+pub use program::{
+    program_length, read_back_length, Test, INSTRUCTION_SIZE, LONGEST_PROGRAM, LONGEST_READ_BACK,
+    MOST_INSTRUCTIONS,
+};
 pub use reason::Reason;
 pub use rule::{Opener, Rule, Taking};
 pub use way::{Claimed, Companion, Deducible, SecondWay, Way, IN_KNOWLEDGE};

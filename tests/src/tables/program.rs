@@ -34,3 +34,11 @@ pub const fn program_length(instructions: usize) -> usize {
 
 /// A page of this length is long enough for every program.
 pub const LONGEST_PROGRAM: usize = program_length(MOST_INSTRUCTIONS);
+
+/// The bytes that a program of so many instructions is read back to: a step for each, and the claim.
+pub const fn read_back_length(instructions: usize) -> usize {
+    Body::Derivation.record() * instructions + Body::Claim.record()
+}
+
+/// A page of this length is long enough for every program that is read back.
+pub const LONGEST_READ_BACK: usize = read_back_length(MOST_INSTRUCTIONS);

@@ -22,4 +22,6 @@ table! {
     Ragged      { number: 14, word: "ragged" }
     Stale       { number: 15, word: "stale" }
     NotShown    { number: 16, word: "not shown" }
+    OffTheTable { number: 17, word: "off the table" }
+    NoClaim     { number: 18, word: "no claim" }
 }

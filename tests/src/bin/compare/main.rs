@@ -9,6 +9,8 @@ mod forms;
 mod inverses;
 mod keys;
 mod names;
+mod programs;
+mod read_backs;
 mod rows;
 mod runs;
 mod tally;
@@ -27,6 +29,7 @@ use checker_tests::reference::{self, code, REFUSAL};
 use checker_tests::tables::Call;
 use forms::compare_form;
 use inverses::compare_inverses;
+use read_backs::compare_read_backs;
 use runs::{compare_page_runs, compare_runs};
 use tally::Tally;
 
@@ -57,9 +60,14 @@ fn compare(seed: u64, count: u64) -> Result<(), String> {
         compare_inputs(&thread_name, &[titled], &mut tally)?;
     }
     let mut source = Source::new(seed);
+    let programs = examples::programs();
     let examples: Vec<_> = examples::names()
         .into_iter()
-        .map(|name| (format!("example {name}"), source.example(examples::submission(&name))))
+        .map(|name| {
+            let over_it = programs.iter().filter(|program| program.over == name);
+            let sent = over_it.map(|program| program.bytes.clone()).collect();
+            (format!("example {name}"), source.example(examples::submission(&name), sent))
+        })
         .collect();
     each_is_told_apart(&examples)?;
     compare_inputs("examples", &examples, &mut tally)?;
@@ -119,7 +127,8 @@ fn compare_input(input: &Input, found: &Answers, tally: &mut Tally) -> Result<()
     for (form, found) in input.forms.iter().zip(&found.writes) {
         compare_form(input, form, found, tally)?;
     }
-    compare_inverses(input, &found.inverses, tally)
+    compare_inverses(input, &found.inverses, tally)?;
+    compare_read_backs(input, &found.read_backs, tally)
 }
 
 /// The verdict and the whole page; and where the submission is accepted, what the page signals, and

@@ -8,6 +8,7 @@ use checker_tests::tables::{Body, Call, Kind, Reason, Way};
 
 use crate::keys::Keys;
 use crate::names::Names;
+use crate::programs::Programs;
 use crate::rows::Rows;
 use crate::ways::Ways;
 
@@ -32,6 +33,7 @@ pub struct Tally {
     pub rows: Rows,
     pub names: Names,
     pub keys: Keys,
+    pub programs: Programs,
     /// Submissions written again from their own bodies.
     pub rewritten: u64,
 }
@@ -89,7 +91,9 @@ impl Tally {
         self.names.print();
         println!();
         self.keys.print();
-        println!("\nsubmissions written again from their bodies: {}", self.rewritten);
+        println!();
+        self.programs.print();
+        println!("submissions written again from their bodies: {}", self.rewritten);
     }
 
     /// A row with one cell for each call.
@@ -99,8 +103,8 @@ impl Tally {
     }
 
     /// Fails where one of a call's refusals, a count at one of the places, an acceptance, a kind of
-    /// guess in a way that may have it, a row of claims, of the tables of kinds and rules, of names or
-    /// of inverses was never reached, or where no submission was written again.
+    /// guess in a way that may have it, a row of claims, of the tables of kinds and rules, of names, of
+    /// inverses or of programs was never reached, or where no submission was written again.
     pub fn complete(&self) -> Result<(), String> {
         let mut missing: Vec<String> = Call::ALL
             .into_iter()
@@ -115,6 +119,7 @@ impl Tally {
         missing.extend(self.rows.missing());
         missing.extend(self.names.missing());
         missing.extend(self.keys.missing());
+        missing.extend(self.programs.missing());
         if self.rewritten == 0 {
             missing.push("a submission written again".to_string());
         }
@@ -146,7 +151,7 @@ impl Answers {
     }
 }
 
-fn way_title(way: Way) -> String {
+pub fn way_title(way: Way) -> String {
     format!("way {}", char::from(way.letter()))
 }
 
