@@ -20,12 +20,13 @@ use Rattle.submission.specs.{Computed.checks1to5, Code.SubmissionRead, Code.Rea
 use Rattle.submission.specs.declared.Claim.{Claim}
 use Rattle.submission.specs.declared.Reading.{Reading}
 use Rattle.submission.specs.declared.Reading.the-variants as reading
+use Rattle.derivation.specs.Step.{written}
 use Rattle.program.specs.declared.Asked.{Asked}
 use Rattle.program.specs.declared.Asked.the-variants.{Asks, Nothing}
 use Rattle.program.specs.{Program.relationOf, Program.testAt, Code.relationIn, Code.asked, Computed.badProgram}
 use Rattle.program.proofs.theory.Check13.{program-good, program-bad}
 use Rattle.machine.specs.Code.{RegisterNumbers}
-use Rattle.readback.specs.ReadBack.{resultOf, stepsRead, claimRead, bodiesRead, bodiesLength}
+use Rattle.readback.specs.ReadBack.{stepsRead, claimRead, bodiesRead, bodiesLength}
 use Rattle.readback.specs.Computed.{offTable, noClaim, readBackAnswer}
 use Rattle.readback.specs.Code.{Numbered, Claimable}
 use Rattle.readback.specs.Calls.{BodiesWritten}
@@ -56,7 +57,7 @@ module _ {s P l : List ℕ} (page : List ℕ) {b n : ℕ} (z : Claimable s P l) 
 
 -- ---- checks 17 and 18
 module _ (s P page : List ℕ) where
-  module _ (w : SubmissionRead s) (g : badProgram s P ≡ false) {u : Stage} (e : checkOf u ≡ failsAt 17 (first (offTable s P) (resultOf s (byte P 0)))) where
+  module _ (w : SubmissionRead s) (g : badProgram s P ≡ false) {u : Stage} (e : checkOf u ≡ failsAt 17 (first (offTable s P) (written s (byte P 0)))) where
     pub listed-out : (r : AnswerGiven) {m q : ℕ} → u ≡ stage.Refused m q → answerOf r ≡ answered (checkOf u) (done 0) → BodiesWritten s P page r page
     unfolding readBackAnswer
     listed-out r p h = record { answer = h ∙ rw (w .passed, g, ← e, p); bytes = rw (w .passed, g, ← e, p) }

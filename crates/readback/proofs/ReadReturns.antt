@@ -26,13 +26,14 @@ use Rattle.submission.specs.declared.Range.the-variants.{Step, Term as TermNumb
 use Rattle.submission.specs.declared.Row.{Row as RowRead}
 use Rattle.submission.specs.declared.Way.{Way as WayRead}
 use Rattle.submission.specs.declared.ClaimBytes.{ClaimBytes}
+use Rattle.derivation.specs.Step.{written}
 use Rattle.program.specs.declared.Instruction.{Instruction as InstructionRead}
 use Rattle.program.specs.declared.Test.{Test as TestRead}
 use Rattle.program.specs.{Program.Instruction, Program.relationOf, Program.instructionAt, Program.testAt, Program.RegistersFit, Code.instructionIn, Code.testIn, Computed.badProgram}
 use Rattle.program.proofs.theory.Check13.{program-iff, right-fits}
 use Rattle.machine.specs.Code.{RegisterNumbers}
 use Rattle.submission.proofs.theory.ListedTerms.{Claimed, claimed}
-use Rattle.readback.specs.ReadBack.{resultOf, stepOf, number, stepRead, stepsRead, wayFrom, wayRead, verifyingRead, companionRead, claimRead}
+use Rattle.readback.specs.ReadBack.{stepOf, number, stepRead, stepsRead, wayFrom, wayRead, verifyingRead, companionRead, claimRead}
 use Rattle.readback.specs.Computed.{offTable, noClaim}
 use Rattle.readback.specs.Code.{RegisterCount, Numbered}
 use Rattle.readback.proofs.theory.ReadBackAnswer.{says-off-table, number-is, listed-on}
@@ -71,11 +72,11 @@ pub register-in : {s : List ℕ} (P : List ℕ) → SubmissionRead s → badProg
 register-in {s} P u g e l = omega (arith, e .is, facts u .read .entries-most, program-iff s P .0 g .few)
 
 -- the registers' numbers, where check 17 passed
-pub all-numbered : {s P l : List ℕ} → SubmissionRead s → badProgram s P ≡ false → RegisterNumbers s P l → (u : Stage) → checkOf u ≡ failsAt 17 (first (offTable s P) (resultOf s (byte P 0))) → u ≡ stage.Passed → Numbered s P l
+pub all-numbered : {s P l : List ℕ} → SubmissionRead s → badProgram s P ≡ false → RegisterNumbers s P l → (u : Stage) → checkOf u ≡ failsAt 17 (first (offTable s P) (written s (byte P 0))) → u ≡ stage.Passed → Numbered s P l
 all-numbered {s} {P} {l} w g z u e p =
-    let on = at-passes 17 (first (offTable s P) (resultOf s (byte P 0))) .0 (sym e ∙ ap checkOf p) in
-    let none : (r : ℕ) → r < resultOf s (byte P 0) → offTable s P r ≡ false = none-fails _ _ .0 on in
-    let below : (r : ℕ) → r < resultOf s (byte P 0) → getD l r 0 < terms s = λ r b. ⊎-elim (λ m. m) (λ m. absurd (denies _ (says-off-table s P r) .0 (none r b) (λ n k h. z .unlisted r b m n k (sym h)))) (lt-or-ge (getD l r 0) (terms s)) in
+    let on = at-passes 17 (first (offTable s P) (written s (byte P 0))) .0 (sym e ∙ ap checkOf p) in
+    let none : (r : ℕ) → r < written s (byte P 0) → offTable s P r ≡ false = none-fails _ _ .0 on in
+    let below : (r : ℕ) → r < written s (byte P 0) → getD l r 0 < terms s = λ r b. ⊎-elim (λ m. m) (λ m. absurd (denies _ (says-off-table s P r) .0 (none r b) (λ n k h. z .unlisted r b m n k (sym h)))) (lt-or-ge (getD l r 0) (terms s)) in
     record {
       read = w;
       good = g;
@@ -136,7 +137,7 @@ module _ {s P l : List ℕ} (z : Numbered s P l) where
   few = program-iff s P .0 (z .good) .few
 
   -- the numbers are bytes
-  byte-number : (r : ℕ) → r < resultOf s (byte P 0) → getD l r 0 < 256
+  byte-number : (r : ℕ) → r < written s (byte P 0) → getD l r 0 < 256
   byte-number r b = let h = z .below r b in omega (arith, facts (z .read) .read .terms-most)
 
   module _ {i : ℕ} (b : i < byte P 0) where
@@ -151,13 +152,13 @@ module _ {s P l : List ℕ} (z : Numbered s P l) where
       result-number = byte-number (k + 1 + i) (omega arith)
 
     module _ {x : InstructionRead} (e : instructionIn x ≡ instructionAt P i) where
-      fit : RegistersFit (resultOf s i) (hasOne (instructionAt P i .rule)) (instructionAt P i)
+      fit : RegistersFit (written s i) (hasOne (instructionAt P i .rule)) (instructionAt P i)
       fit = program-iff s P .0 (z .good) .registers-right i b
 
-      left-below : x .left < resultOf s (byte P 0)
+      left-below : x .left < written s (byte P 0)
       left-below = let f : x .left ≡ instructionAt P i .left = ap (λ y. y .left) e in omega (arith, fit .0)
 
-      right-below : hasOne (x .rule) ≡ false → x .right < resultOf s (byte P 0)
+      right-below : hasOne (x .rule) ≡ false → x .right < written s (byte P 0)
       right-below h =
           let f : x .right ≡ instructionAt P i .right = ap (λ y. y .right) e in
           let g : hasOne (instructionAt P i .rule) ≡ false = ap (λ y. hasOne (y .rule)) (sym e) ∙ h in
@@ -173,7 +174,7 @@ module _ {s P l : List ℕ} (z : Numbered s P l) where
           Puts a at (x .rule ∷ p ∷ q ∷ n ∷ []) a′ at′ → Puts a at (stepRead s P i) a′ at′
       step-put {p = p} {q} {n} ke pe qe ne put =
           let second : q ≡ cond (hasOne (x .rule)) 0 (number s P (x .right)) = qe ∙ go (hasOne (x .rule)) refl in
-          rw (← e, ← (pe ∙ z .is (x .left) left-below), ← second, ← (ne ∙ ap (λ k. getD l (k + 1 + i) 0) ke ∙ z .is (resultOf s i) (omega arith))) put
+          rw (← e, ← (pe ∙ z .is (x .left) left-below), ← second, ← (ne ∙ ap (λ k. getD l (k + 1 + i) 0) ke ∙ z .is (written s i) (omega arith))) put
         where
           go : (c : Bool) → hasOne (x .rule) ≡ c → cond c 0 (getD l (x .right) 0) ≡ cond c 0 (number s P (x .right))
           go true h = refl
@@ -181,7 +182,7 @@ module _ {s P l : List ℕ} (z : Numbered s P l) where
 
   -- the claim
   module _ {t : TestRead} (e : testIn t ≡ testAt P) where
-    test-below : t .right < resultOf s (byte P 0)
+    test-below : t .right < written s (byte P 0)
     test-below = let f : t .right ≡ testAt P .right = ap (λ y. y .right) e in rw f (right-fits _ _ (testAt P) (program-iff s P .0 (z .good) .test-right))
 
     pub test-number : getD l (t .right) 0 < 256

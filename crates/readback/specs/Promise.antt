@@ -1,11 +1,11 @@
 -- What is promised of reading back: document 02, A6.
 use Rattle.base.specs.{Words._≡_, Words.List, Words.ℕ, Words._≤_, Words._<_, Words.length, Words.byte, Words.Bytes, Answer.done, Answer.Clear}
 use Rattle.submission.specs.{Record.steps, Record.guess, Body.bodies, Body.bodyAt, Body.submissionOf, Check.rows1to4, Check.rows1to5}
-use Rattle.derivation.specs.Step.{concluded, StepFits}
+use Rattle.derivation.specs.Step.{concluded, StepFits, written}
 use Rattle.program.specs.Program.{bytesOf}
 use Rattle.machine.specs.Run.{held}
 use Rattle.conditions.specs.{Calls.program, Computed.checkAnswer}
-use Rattle.readback.specs.{ReadBack.resultOf, ReadBack.derivationRead, ReadBack.claimRead, ReadBack.bodiesRead, ReadBack.bodiesLength, Computed.readBackAnswer}
+use Rattle.readback.specs.{ReadBack.derivationRead, ReadBack.claimRead, ReadBack.bodiesRead, ReadBack.bodiesLength, Computed.readBackAnswer}
 
 -- the submission with the bodies read back in the place of its own
 abbrev pub replaced : List ℕ → List ℕ → List ℕ
@@ -40,4 +40,4 @@ pub record ReadBackPromise : Type 0 where
       Clear (rows1to4 (replaced s P)) × SameStart (replaced s P) s × (steps (replaced s P) ≡ byte P 0)
   -- each step is one of the table of steps, and it concludes "what the machine holds with the right guess"
   pub right : (s P : List ℕ) → Bytes s → (room n : ℕ) → readBackAnswer s P room ≡ done n → (i : ℕ) → i < byte P 0 →
-      StepFits (replaced s P) i × (concluded (replaced s P) i ≡ held s P (resultOf s i))
+      StepFits (replaced s P) i × (concluded (replaced s P) i ≡ held s P (written s i))

@@ -3,14 +3,11 @@ use Rattle.base.specs.{Words._≡_, Words._⊎_, Words.Bool, Words.true, Words.
 use Rattle.term.specs.{Term.Relation, Term.equal, Term.inverses, Number.hasOne, Computed.term?}
 use Rattle.submission.specs.Record.{terms, entries, guess, term}
 use Rattle.submission.specs.Check.{Way, another-step, at-start, inverse-key, guess-derived, inverse-derived, Range, step-number, term-number, zero-only, step-or-knowledge, knowledgeStep, row}
+use Rattle.derivation.specs.Step.{written}
 use Rattle.program.specs.Program.{relationOf, Instruction, instructionAt, testAt}
 use Rattle.machine.specs.Run.{held, programRows}
 
 -- ---- the bodies
--- the register of the result of instruction i, and so the count of registers before it
-abbrev pub resultOf : List ℕ → ℕ → ℕ
-resultOf s i = entries s + 1 + i
-
 -- the step whose result register r holds
 abbrev pub stepOf : List ℕ → ℕ → ℕ
 stepOf s r = r - (entries s + 1)
@@ -25,7 +22,7 @@ stepRead s P i =
     instructionAt P i .rule
     ∷ number s P (instructionAt P i .left)
     ∷ cond (hasOne (instructionAt P i .rule)) 0 (number s P (instructionAt P i .right))
-    ∷ number s P (resultOf s i)
+    ∷ number s P (written s i)
     ∷ []
 
 -- the first n of them
@@ -91,7 +88,7 @@ NoClaim s t = (t .left < entries s) ⊎ ((t .left ≡ entries s) × (t .right �
 abbrev pub readBackRows : List ℕ → List ℕ → ℕ → List (ℕ → ℕ → Type 0)
 readBackRows s P room =
     programRows s P
-    ++ numbered 17 (λ r. (r < resultOf s (byte P 0)) × OffTable s P r)
+    ++ numbered 17 (λ r. (r < written s (byte P 0)) × OffTable s P r)
     ∷ numbered 18 (λ p. (p ≡ 0) × NoClaim s (testAt P))
     ∷ row11 (bodiesLength (byte P 0)) room
     ∷ []

@@ -31,11 +31,12 @@ ghost use Rattle.submission.specs.Check.{inverse-key, inverse-derived, knowledg
 ghost use Rattle.term.specs.Number.{hasOne};
 ghost use Rattle.submission.specs.Code.{SubmissionRead, wayIs, rangeIs, IsClaim};
 ghost use Rattle.submission.specs.Record.{terms as termCount, entries as entryCount};
+ghost use Rattle.derivation.specs.Step.{written};
 ghost use Rattle.program.specs.Program.{relationOf, testAt};
 ghost use Rattle.program.specs.Computed.{badProgram};
 ghost use Rattle.program.specs.Code.{instructionIn, testIn};
 ghost use Rattle.machine.specs.Code.{RegisterNumbers};
-ghost use Rattle.readback.specs.ReadBack.{resultOf, stepOf, number, stepRead, stepsRead, wayFrom, verifyingRead, companionRead, claimRead, bodiesRead, bodiesLength};
+ghost use Rattle.readback.specs.ReadBack.{stepOf, number, stepRead, stepsRead, wayFrom, verifyingRead, companionRead, claimRead, bodiesRead, bodiesLength};
 ghost use Rattle.readback.specs.Computed.{offTable, noClaim};
 ghost use Rattle.readback.specs.Code.{RegisterCount, Numbered, Claimable};
 ghost use Rattle.readback.specs.Calls.{BodiesWritten};
@@ -54,7 +55,7 @@ fn check_listed(s: &[u8], program: &[u8], numbers: &[u16; 256]) -> Stage
     requires { ⌜ SubmissionRead (now s) ⌝ }
     requires { ⌜ badProgram (now s) (now program) ≡ false ⌝ }
     requires { ⌜ RegisterNumbers (now s) (now program) (now numbers) ⌝ }
-    ensures { λ r. ⌜ checkOf r ≡ failsAt 17 (first (offTable (now (s .entry)) (now (program .entry))) (resultOf (now (s .entry)) (byteAt (now (program .entry)) 0))) ⌝ }
+    ensures { λ r. ⌜ checkOf r ≡ failsAt 17 (first (offTable (now (s .entry)) (now (program .entry))) (written (now (s .entry)) (byteAt (now (program .entry)) 0))) ⌝ }
 {
     let terms = wide16(submission::terms(s));
     let registers = register_count(s, program);

@@ -27,7 +27,7 @@ use Rattle.machine.proofs.theory.RunRegisters.{register-entry, register-guess}
 use Rattle.conditions.specs.{Calls.lowest, Calls.entryGiven, Calls.named, Calls.instruction, Calls.program, Calls.testFor, Condition.WellFormed, Condition.FiveConditions, Condition.Verified, Condition.Given, Condition.target, Condition.ClaimMet, Condition.SecondWay}
 use Rattle.conditions.proofs.theory.ProgramRun.{lowest-known, program-steps, instruction-read, value}
 use Rattle.conditions.proofs.theory.Signal.{premises-known, start-known, inverse-known, entry-gives, guess-right, right-result, right-lowest}
-use Rattle.readback.specs.ReadBack.{resultOf, stepOf, number, stepRead, stepsRead, derivationRead, wayRead, verifyingRead, companionRead, claimRead, NoClaim}
+use Rattle.readback.specs.ReadBack.{stepOf, number, stepRead, stepsRead, derivationRead, wayRead, verifyingRead, companionRead, claimRead, NoClaim}
 use Rattle.readback.specs.Computed.{offTable}
 use Rattle.readback.proofs.theory.ReadBackAnswer.{number-is, listed-on}
 
@@ -78,7 +78,7 @@ module _ (s : List ℕ) (bytes : Bytes s) (w : WellFormed s) (c₀ : FiveConditi
   held-lowest i t b e = own-held (lowest s t) ∙ right-lowest s bytes w c₀ i t b e
 
   -- so none is off the table
-  pub own-listed : (r : ℕ) → r < resultOf s (byte P 0) → offTable s P r ≡ false
+  pub own-listed : (r : ℕ) → r < written s (byte P 0) → offTable s P r ≡ false
   own-listed r l = go (written-cases s (steps s) r (rw own-count at l))
     where
       go : Written s (steps s) r → offTable s P r ≡ false

@@ -14,11 +14,12 @@ use Rattle.term.proofs.Reduce.{says-test}
 use Rattle.term.specs.Computed.{term?}
 use Rattle.submission.specs.{Record.terms, Record.entries, Record.term, Computed.checks1to5}
 use Rattle.submission.proofs.theory.ListedTerms.{Listed}
+use Rattle.derivation.specs.Step.{written}
 use Rattle.program.specs.{Program.Instruction, Program.testAt, Computed.badProgram}
 use Rattle.machine.specs.Run.{held, programRows}
 use Rattle.machine.proofs.theory.RunAnswer.{tells-program}
-use Rattle.readback.specs.ReadBack.{resultOf, number, bodiesLength, OffTable, NoClaim, readBackRows}
-use Rattle.readback.specs.Computed.{offTable, noClaim, checks17and18, readBackAnswer}
+use Rattle.readback.specs.ReadBack.{number, bodiesLength, OffTable, NoClaim, readBackRows}
+use Rattle.readback.specs.Computed.{offTable, noClaim, checksAfter13, readBackAnswer}
 
 -- term n is what register r holds
 abbrev pub holdsNumber : List ℕ → List ℕ → ℕ → ℕ → Bool
@@ -43,8 +44,8 @@ pub read-back-exact : (s P : List ℕ) → Bytes s → (room : ℕ) (a : Answer)
 unfolding readBackAnswer
 read-back-exact s P b room =
     answers-iff
-    (tells-then (andThen (checks1to5 s) (failsIf (badProgram s P) 13 0)) (checks17and18 s P room) (tells-program s P b) (λ _.
-    tells-then (failsAt 17 (first (offTable s P) (resultOf s (byte P 0)))) _ (tells-at 17 (offTable s P) (resultOf s (byte P 0)) (λ r l. says-off-table s P r)) (λ _.
+    (tells-then (andThen (checks1to5 s) (failsIf (badProgram s P) 13 0)) (checksAfter13 s P room) (tells-program s P b) (λ _.
+    tells-then (failsAt 17 (first (offTable s P) (written s (byte P 0)))) _ (tells-at 17 (offTable s P) (written s (byte P 0)) (λ r l. says-off-table s P r)) (λ _.
     tells-then (failsIf (noClaim s (testAt P)) 18 0) _ (tells-if (noClaim s (testAt P)) 18 0 (says-no-claim s (testAt P))) (λ _.
     tells-room (bodiesLength (byte P 0)) room))))
     (bodiesLength (byte P 0)) (λ n. n ≡ bodiesLength (byte P 0)) (λ _ n. (sym, sym))

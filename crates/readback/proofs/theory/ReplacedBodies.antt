@@ -18,12 +18,12 @@ use Rattle.submission.specs.Check.{HasSecond, Shaped, BadTerm, rows1and2, rows1
 use Rattle.submission.proofs.theory.{ListedTerms.Claimed, ReadingRows.claimed-clear}
 use Rattle.form.specs.Write.{ReadsAs, writeRows}
 use Rattle.form.proofs.theory.{WriteAnswer.write-exact, RoundTrip.form-promise, RoundTrip.counts, RoundTrip.body-length}
-use Rattle.derivation.specs.Step.{concluded, StepFits}
+use Rattle.derivation.specs.Step.{concluded, StepFits, written}
 use Rattle.program.specs.{Program.Instruction, Program.instructionAt, Program.testAt, Program.operand, Program.ProgramFits, Computed.badProgram}
 use Rattle.program.proofs.theory.Check13.{program-iff, operand-fits}
 use Rattle.machine.specs.Run.{registers, executed, held, programRows}
 use Rattle.machine.proofs.theory.RunRegisters.{register-kept, register-written}
-use Rattle.readback.specs.{ReadBack.resultOf, ReadBack.number, ReadBack.stepRead, ReadBack.stepsRead, ReadBack.derivationRead, ReadBack.claimRead, ReadBack.bodiesRead, ReadBack.bodiesLength, ReadBack.OffTable, ReadBack.NoClaim, ReadBack.readBackRows, Computed.readBackAnswer, Computed.offTable, Promise.replaced, Promise.SameStart}
+use Rattle.readback.specs.{ReadBack.number, ReadBack.stepRead, ReadBack.stepsRead, ReadBack.derivationRead, ReadBack.claimRead, ReadBack.bodiesRead, ReadBack.bodiesLength, ReadBack.OffTable, ReadBack.NoClaim, ReadBack.readBackRows, Computed.readBackAnswer, Computed.offTable, Promise.replaced, Promise.SameStart}
 use Rattle.readback.proofs.theory.ReadBackAnswer.{says-off-table, read-back-exact, number-found}
 use Rattle.readback.proofs.theory.SameSubmissions.{body-byte, Agree, agree, term-alike}
 
@@ -99,7 +99,7 @@ module _ (s P : List ℕ) (bytes : Bytes s) (room n : ℕ) (read : readBackAnswe
   all-clear = read-back-exact s P bytes room (done n) .0 read .0
 
   abbrev later : List (ℕ → ℕ → Type 0)
-  later = numbered 17 (λ r. (r < resultOf s (byte P 0)) × OffTable s P r) ∷ numbered 18 (λ p. (p ≡ 0) × NoClaim s (testAt P)) ∷ row11 (bodiesLength (byte P 0)) room ∷ []
+  later = numbered 17 (λ r. (r < written s (byte P 0)) × OffTable s P r) ∷ numbered 18 (λ p. (p ≡ 0) × NoClaim s (testAt P)) ∷ row11 (bodiesLength (byte P 0)) room ∷ []
 
   before : Clear (rows1to5 s) × Clear (numbered 13 (λ p. (p ≡ 0) × (ProgramFits s P → ⊥)) ∷ [])
   before = clear-split (rows1to5 s) (numbered 13 (λ p. (p ≡ 0) × (ProgramFits s P → ⊥)) ∷ []) (clear-split (programRows s P) later all-clear .0)
@@ -116,7 +116,7 @@ module _ (s P : List ℕ) (bytes : Bytes s) (room n : ℕ) (read : readBackAnswe
   fits : ProgramFits s P
   fits = program-iff s P .0 (denies _ (refutes _ (program-iff s P)) .1 (λ f. before .1 .0 13 0 (refl, (refl, f))))
 
-  numbered-at : (r : ℕ) → r < resultOf s (byte P 0) → (number s P r < terms s) × (held s P r ≡ term s (number s P r))
+  numbered-at : (r : ℕ) → r < written s (byte P 0) → (number s P r < terms s) × (held s P r ≡ term s (number s P r))
   numbered-at r l =
       number-found s P r (denies (offTable s P r) (says-off-table s P r) .1 (λ u. clear-split (programRows s P) later all-clear .1 .0 17 r (refl, (l, u))))
 
@@ -189,38 +189,38 @@ module _ (s P : List ℕ) (bytes : Bytes s) (room n : ℕ) (read : readBackAnswe
     q-is : qAt r i ≡ cond (hasOne (x .rule)) 0 (number s P (x .right))
     q-is = later-field 2 (omega arith)
 
-    conclusion-is : conclusionAt r i ≡ number s P (resultOf s i)
+    conclusion-is : conclusionAt r i ≡ number s P (written s i)
     conclusion-is = later-field 3 (omega arith)
 
-    registers-fit : (x .left < resultOf s i) × (operand x < resultOf s i)
-    registers-fit = (fits .registers-right i l .0, operand-fits (resultOf s i) x (fits .registers-right i l))
+    registers-fit : (x .left < written s i) × (operand x < written s i)
+    registers-fit = (fits .registers-right i l .0, operand-fits (written s i) x (fits .registers-right i l))
 
-    low : (k : ℕ) → k < resultOf s i → k < resultOf s (byte P 0)
+    low : (k : ℕ) → k < written s i → k < written s (byte P 0)
     low k b = omega arith
 
     -- a register that is written before the instruction keeps its term
-    early : (k : ℕ) → k < resultOf s i → getD (registers s (nameAt s (guess s)) P i) k void ≡ held s P k
+    early : (k : ℕ) → k < written s i → getD (registers s (nameAt s (guess s)) P i) k void ≡ held s P k
     unfolding held
     early k b = sym (register-kept s (nameAt s (guess s)) P i (byte P 0) k (omega arith) b)
 
-    result-is : held s P (resultOf s i) ≡ op head (held s P (x .left)) (held s P (operand x))
+    result-is : held s P (written s i) ≡ op head (held s P (x .left)) (held s P (operand x))
     unfolding held executed
     result-is =
         register-written s (nameAt s (guess s)) P i (byte P 0) l ∙ ap₂ (op head) (early (x .left) (registers-fit .0)) (early (operand x) (registers-fit .1))
 
-    message-held : (k : ℕ) → k < resultOf s (byte P 0) → Message (held s P k)
+    message-held : (k : ℕ) → k < written s (byte P 0) → Message (held s P k)
     message-held k b = let (m, e) = numbered-at k b in subst Message (sym e) (claim .read .messages (number s P k) m)
 
     once : single head ≡ true → held s P (operand x) ≡ held s P (x .left)
     unfolding hasOne
     once e = rw e
 
-    step-held : Step head (held s P (x .left)) (held s P (operand x)) (held s P (resultOf s i))
+    step-held : Step head (held s P (x .left)) (held s P (operand x)) (held s P (written s i))
     step-held =
         subst (Step head (held s P (x .left)) (held s P (operand x))) (sym result-is)
-        (op-step head _ _ (message-held (x .left) (low (x .left) (registers-fit .0))) (subst Message result-is (message-held (resultOf s i) (omega arith))) once)
+        (op-step head _ _ (message-held (x .left) (low (x .left) (registers-fit .0))) (subst Message result-is (message-held (written s i) (omega arith))) once)
 
-    term-held : (k : ℕ) → k < resultOf s (byte P 0) → term r (number s P k) ≡ held s P k
+    term-held : (k : ℕ) → k < written s (byte P 0) → term r (number s P k) ≡ held s P k
     term-held k b = term-alike same (number s P k) ∙ sym (numbered-at k b .1)
 
     first-held : term r (pAt r i) ≡ held s P (x .left)
@@ -232,26 +232,26 @@ module _ (s P : List ℕ) (bytes : Bytes s) (room n : ℕ) (read : readBackAnswe
         ap (term r) (ap₂ (λ (k : ℕ) (q : ℕ). cond (hasOne k) (pAt r i) q) rule-is q-is ∙ ap (λ p. cond (hasOne (x .rule)) p (cond (hasOne (x .rule)) 0 (number s P (x .right)))) p-is)
         ∙ go (hasOne (x .rule)) (fits .registers-right i l .2)
       where
-        go : (b : Bool) → (b ≡ false → x .right < resultOf s i) → term r (cond b (number s P (x .left)) (cond b 0 (number s P (x .right)))) ≡ held s P (cond b (x .left) (x .right))
+        go : (b : Bool) → (b ≡ false → x .right < written s i) → term r (cond b (number s P (x .left)) (cond b 0 (number s P (x .right)))) ≡ held s P (cond b (x .left) (x .right))
         go true h = term-held (x .left) (low (x .left) (registers-fit .0))
         go false h = term-held (x .right) (low (x .right) (h refl))
 
     second-low : cond (hasOne (x .rule)) 0 (number s P (x .right)) < terms s
     second-low = go (hasOne (x .rule)) (fits .registers-right i l .2)
       where
-        go : (b : Bool) → (b ≡ false → x .right < resultOf s i) → cond b 0 (number s P (x .right)) < terms s
+        go : (b : Bool) → (b ≡ false → x .right < written s i) → cond b 0 (number s P (x .right)) < terms s
         go true h = claim .read .terms-least
         go false h = numbered-at (x .right) (low (x .right) (h refl)) .0
 
-    pub concluded-held : concluded r i ≡ held s P (resultOf s i)
-    concluded-held = ap (term r) conclusion-is ∙ term-held (resultOf s i) (omega arith)
+    pub concluded-held : concluded r i ≡ held s P (written s i)
+    concluded-held = ap (term r) conclusion-is ∙ term-held (written s i) (omega arith)
 
     pub step-fits : StepFits r i
     step-fits = record {
       rule-below = rw rule-is (fits .rules-right i l);
       p-below = rw (p-is, same .same-terms) (numbered-at (x .left) (low (x .left) (registers-fit .0)) .0);
       q-below = rw (q-is, same .same-terms) second-low;
-      conclusion-below = rw (conclusion-is, same .same-terms) (numbered-at (resultOf s i) (omega arith) .0);
+      conclusion-below = rw (conclusion-is, same .same-terms) (numbered-at (written s i) (omega arith) .0);
       unused = λ e. let f : hasOne (x .rule) ≡ true = sym (ap hasOne rule-is) ∙ e in q-is ∙ rw f;
       step = rw (rule-is, first-held, second-held, concluded-held) step-held;
     }

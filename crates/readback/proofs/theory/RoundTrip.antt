@@ -12,12 +12,13 @@ use Rattle.base.proofs.{First.first-equal, Says.same-test, RefusalLaws.passes-i
 use Rattle.submission.specs.{Record.terms, Record.entries, Record.steps, Record.guess, Record.term, Body.bodies, Body.bodyAt, Body.submissionOf, Check.rows1and2, Check.rows1to5, Computed.checks1to5}
 use Rattle.submission.proofs.theory.ReadingRows.{tells-1-to-5, claimed-clear}
 use Rattle.form.proofs.theory.RoundTrip.{form-promise}
+use Rattle.derivation.specs.Step.{written}
 use Rattle.program.specs.{Program.bytesOf, Program.testAt, Computed.badProgram}
 use Rattle.machine.specs.Run.{held, programRows}
 use Rattle.machine.proofs.theory.RunAnswer.{tells-program}
 use Rattle.conditions.specs.{Calls.program, Condition.WellFormed, Condition.FiveConditions, Computed.checkAnswer}
 use Rattle.conditions.proofs.theory.{Acceptance.accepted-iff, Signal.program-good}
-use Rattle.readback.specs.{ReadBack.resultOf, ReadBack.derivationRead, ReadBack.claimRead, ReadBack.bodiesLength, ReadBack.OffTable, ReadBack.NoClaim, ReadBack.readBackRows, Computed.offTable, Computed.noClaim, Computed.readBackAnswer, Promise.replaced, Promise.SameStart, Promise.ReadBackPromise}
+use Rattle.readback.specs.{ReadBack.derivationRead, ReadBack.claimRead, ReadBack.bodiesLength, ReadBack.OffTable, ReadBack.NoClaim, ReadBack.readBackRows, Computed.offTable, Computed.noClaim, Computed.readBackAnswer, Promise.replaced, Promise.SameStart, Promise.ReadBackPromise}
 use Rattle.readback.proofs.theory.ReadBackAnswer.{says-off-table, read-back-exact}
 use Rattle.readback.proofs.theory.SameSubmissions.{Agree, same-agree, term-alike, held-alike, steps-alike, claim-alike}
 use Rattle.readback.proofs.theory.OwnPage.{own-count, own-listed, own-derivation, own-claim, own-claims}
@@ -34,7 +35,7 @@ module _ (s : List ℕ) (b : Bytes s) (w : WellFormed s) (c : FiveConditions s) 
   own-clear : (sheet : ℕ) → bodiesLength (steps s) ≤ sheet → Clear (readBackRows s P sheet)
   own-clear sheet l =
       let r = passes-iff (tells-1-to-5 s b) .1 (w .read) in
-      both-clear (programRows s P) (numbered 17 (λ r. (r < resultOf s (byte P 0)) × OffTable s P r) ∷ numbered 18 (λ p. (p ≡ 0) × NoClaim s (testAt P)) ∷ row11 (bodiesLength (byte P 0)) sheet ∷ [])
+      both-clear (programRows s P) (numbered 17 (λ r. (r < written s (byte P 0)) × OffTable s P r) ∷ numbered 18 (λ p. (p ≡ 0) × NoClaim s (testAt P)) ∷ row11 (bodiesLength (byte P 0)) sheet ∷ [])
       (passes-iff (tells-program s P b) .0 (rw (r, program-good s b w c)))
       ((λ m q (_, (k, u)). true≢false (sym (says-off-table s P q .1 u) ∙ own-listed s b w c q k)), ((λ m q (_, (_, h)). own-claims s b w c h), ((λ m q (_, (_, k)). omega (arith, own-count s b w c)), tt)))
 
@@ -60,8 +61,8 @@ module _ {s s′ : List ℕ} (b : Bytes s) (b′ : Bytes s′) (c : Clear (rows1
         (let (f, g) = says-off-table s P r in
         (λ t n l h. f t n (omega (arith, same .same-terms)) (sym (held-alike same low (e .guess) P r) ∙ h ∙ term-alike same n), λ u. g (λ n l h. u n (omega (arith, same .same-terms)) (held-alike same low (e .guess) P r ∙ h ∙ sym (term-alike same n)))))
 
-    first-alike : first (offTable s′ P) (resultOf s′ (byte P 0)) ≡ first (offTable s P) (resultOf s (byte P 0))
-    first-alike = first-equal (offTable s′ P) (offTable s P) (resultOf s′ (byte P 0)) (λ r l. off-alike r) ∙ ap (λ k. first (offTable s P) (k + 1 + byte P 0)) (same .same-entries)
+    first-alike : first (offTable s′ P) (written s′ (byte P 0)) ≡ first (offTable s P) (written s (byte P 0))
+    first-alike = first-equal (offTable s′ P) (offTable s P) (written s′ (byte P 0)) (λ r l. off-alike r) ∙ ap (λ k. first (offTable s P) (k + 1 + byte P 0)) (same .same-entries)
 
     claim-alike-test : noClaim s′ (testAt P) ≡ noClaim s (testAt P)
     claim-alike-test = rw (same .same-entries)

@@ -17,11 +17,12 @@ use Rattle.submission.specs.Record.{count, width, startOf, start, terms, entrie
 use Rattle.term.specs.Number.{shapeOf}
 use Rattle.submission.specs.Body.{bodyAt}
 use Rattle.submission.specs.Check.{Range, step-number, term-number, zero-only, step-or-knowledge, row, rows1and2}
+use Rattle.derivation.specs.Step.{written}
 use Rattle.program.specs.Program.{Instruction, instructionAt, testAt}
 use Rattle.machine.specs.Run.{initial, executed, registers, held}
 use Rattle.machine.proofs.theory.StateGrowth.{decoded-alike}
 use Rattle.form.proofs.theory.RoundTrip.{body-length}
-use Rattle.readback.specs.{ReadBack.resultOf, ReadBack.number, ReadBack.stepRead, ReadBack.stepsRead, ReadBack.wayRead, ReadBack.verifyingRead, ReadBack.companionRead, ReadBack.claimRead}
+use Rattle.readback.specs.{ReadBack.number, ReadBack.stepRead, ReadBack.stepsRead, ReadBack.wayRead, ReadBack.verifyingRead, ReadBack.companionRead, ReadBack.claimRead}
 use Rattle.readback.proofs.theory.ReadBackAnswer.{holdsNumber}
 
 -- a byte of a body, where the body starts
@@ -106,7 +107,7 @@ module _ {s s′ : List ℕ} (a : Agree s s′) where
 
     -- ---- the same bodies
     step-alike : (P : List ℕ) (i : ℕ) → stepRead s P i ≡ stepRead s′ P i
-    step-alike P i = rw (number-alike P (instructionAt P i .left), number-alike P (instructionAt P i .right), number-alike P (resultOf s i), a .same-entries)
+    step-alike P i = rw (number-alike P (instructionAt P i .left), number-alike P (instructionAt P i .right), number-alike P (written s i), a .same-entries)
 
     pub steps-alike : (P : List ℕ) (n : ℕ) → stepsRead s P n ≡ stepsRead s′ P n
     unfolding stepsRead
