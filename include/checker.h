@@ -83,8 +83,8 @@ uint32_t checker_inverses(const uint8_t *sub, size_t sub_len, uint8_t *page, siz
 
    The page of an accepted submission gives back its own derivation and claim. Two bodies read back from an accepted page, put in the place
    of the submission's own (checker_write) and checked again, yield that page. Bodies read back from another program pass checks 1 to 4 and
-   6 in that place, and may still be refused: with 5 in way j where the guess is no key, with 7 in ways j and k where the guess register
-   serves a premise, and with 8, 9, 10 or 16. */
+   6 in that place, and may still be refused: with 5 in way j where the guess is no key, with 7 in ways j and k where a premise is
+   the guess, which doesn't count as known there, and with 8, 9, 10 or 16. */
 uint32_t checker_read_back(const uint8_t *sub, size_t sub_len, const uint8_t *program, size_t program_len, uint8_t *page, size_t page_len);
 
 #ifdef __cplusplus

@@ -1,9 +1,8 @@
 -- The checks in order, and the page: a law for each return.
-use mathlib.Core.Path.{_≡_, refl, sym, ap, _∙_}
-use mathlib.Core.Bool.{Bool, true, false}
-use mathlib.Core.List.{List, _++_}
-use mathlib.Core.Option.{none, some}
-use Prim.Native.Nat.{ℕ, _+_, _≤_, _<_}
+use mathlib.Core.Path.{_≡_, sym, ap, _∙_}
+use mathlib.Core.Bool.{false}
+use mathlib.Core.List.{List}
+use Prim.Native.Nat.{ℕ, _≤_, _<_}
 use native.Mathlib.Omega.{arith}
 use lib.ListN.{length}
 use lib.Seq.{take-all}
@@ -12,19 +11,17 @@ use Rattle.base.specs.declared.Answer.{Answer as AnswerGiven}
 use Rattle.base.specs.declared.Answer.the-variants as given
 use Rattle.base.specs.declared.Stage.{Stage}
 use Rattle.base.specs.declared.Stage.the-variants as stage
-use Rattle.base.specs.{Words.byte, Words.Bytes, Words.first, Answer.done, Answer.refused, Answer.answerOf, Answer.Puts, Code.checkOf, Computed.failsAt, Computed.failsIf, Computed.passes, Computed.answered}
-use Rattle.base.proofs.{Says.none-fails, AnswerLaws.if-passes, PutLaws.puts-front, PutLaws.puts-then}
-use Rattle.term.specs.declared.Relation.{Relation as RelationGiven}
-use Rattle.term.specs.Code.{relationIs}
+use Rattle.base.specs.{Words.byte, Words.Bytes, Words.first, Answer.done, Answer.answerOf, Answer.Puts, Code.checkOf, Computed.failsAt, Computed.failsIf, Computed.passes, Computed.answered}
+use Rattle.base.proofs.{AnswerLaws.if-passes, PutLaws.puts-front, PutLaws.puts-then}
 use Rattle.submission.specs.{Computed.checks1to5, Code.SubmissionRead, Code.ReadingIs, Code.readingCheck}
 use Rattle.submission.specs.declared.Claim.{Claim}
 use Rattle.submission.specs.declared.Reading.{Reading}
 use Rattle.submission.specs.declared.Reading.the-variants as reading
 use Rattle.derivation.specs.Step.{written}
 use Rattle.program.specs.declared.Asked.{Asked}
-use Rattle.program.specs.declared.Asked.the-variants.{Asks, Nothing}
-use Rattle.program.specs.{Program.relationOf, Program.testAt, Code.relationIn, Code.asked, Computed.badProgram}
-use Rattle.program.proofs.theory.Check13.{program-good, program-bad}
+use Rattle.program.specs.declared.Asked.the-variants.{Nothing}
+use Rattle.program.specs.{Program.testAt, Code.relationIn, Code.asked, Computed.badProgram}
+use Rattle.program.proofs.theory.Check13.{program-bad}
 use Rattle.machine.specs.Code.{RegisterNumbers}
 use Rattle.readback.specs.ReadBack.{stepsRead, claimRead, bodiesRead, bodiesLength}
 use Rattle.readback.specs.Computed.{offTable, noClaim, readBackAnswer}

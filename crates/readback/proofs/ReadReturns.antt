@@ -1,35 +1,35 @@
 -- What the functions read: registers' numbers, the parts of a claim; a law for each return.
-use mathlib.Core.Path.{_≡_, refl, sym, ap, ap₂, _∙_}
+use mathlib.Core.Path.{_≡_, refl, sym, ap, _∙_}
 use mathlib.Core.Logic.{⊎-elim}
-use mathlib.Core.Bool.{Bool, true, false, cond, _&&_, _||_}
-use mathlib.Core.List.{List, [], _∷_, _++_}
+use mathlib.Core.Bool.{Bool, true, false, cond}
+use mathlib.Core.List.{List, [], _∷_}
 use mathlib.Core.Option.{some}
-use Prim.Native.Nat.{ℕ, _+_, _-_, _*_, _≤_, _<_}
+use Prim.Native.Nat.{ℕ, _+_, _-_, _≤_, _<_}
 use native.Mathlib.Omega.{arith}
 use native.Mathlib.Numerals.{add-one}
 use native.Mathlib.Nat.{le-antisymm}
 use lib.Dec.{eqb, ltb}
-use lib.ListN.{length, getD}
-use mir.Syntax.{w8, w16}
+use lib.ListN.{getD}
+use mir.Syntax.{w8}
 use mir.Val.{Fits}
 use borrow.Author.Tests.{lt-ltb, le-ltb, eq-eqb, ne-eqb}
-use Rattle.base.specs.{Words.byte, Words.first, Answer.Puts, Code.checkOf, Computed.Check, Computed.fails, Computed.passes, Computed.failsAt, Computed.failsIf}
+use Rattle.base.specs.{Words.byte, Words.first, Answer.Puts, Code.checkOf, Computed.fails, Computed.passes, Computed.failsAt, Computed.failsIf}
 use Rattle.base.specs.declared.Stage.{Stage}
 use Rattle.base.specs.declared.Stage.the-variants as stage
 use Rattle.base.proofs.{Order.lt-or-ge, Says.denies, Says.none-fails, AnswerLaws.at-passes, PutLaws.puts-none, PutLaws.puts-then}
-use Rattle.term.specs.{Term.Relation, Term.equal, Term.inverses, Code.relationIs, Number.hasOne}
+use Rattle.term.specs.{Term.equal, Code.relationIs, Number.hasOne}
 use Rattle.term.specs.declared.Relation.{Relation as RelationGiven}
 use Rattle.term.specs.declared.Relation.the-variants.{Equal, Inverse}
-use Rattle.submission.specs.{Record.terms, Record.entries, Record.guess, Code.SubmissionRead, Code.wayIs, Code.rangeIs, Code.rowIs, Code.IsClaimBytes, Check.Way, Check.row, Check.inverse-derived, Check.inverse-key, Check.knowledgeStep}
+use Rattle.submission.specs.{Record.terms, Record.entries, Record.guess, Code.SubmissionRead, Code.wayIs, Code.rangeIs, Code.rowIs, Code.IsClaimBytes, Check.row, Check.inverse-derived, Check.inverse-key, Check.knowledgeStep}
 use Rattle.submission.specs.declared.Range.{Range as RangeRead}
-use Rattle.submission.specs.declared.Range.the-variants.{Step, Term as TermNumber, Zero, StepOrKnowledge}
+use Rattle.submission.specs.declared.Range.the-variants.{Step, StepOrKnowledge}
 use Rattle.submission.specs.declared.Row.{Row as RowRead}
 use Rattle.submission.specs.declared.Way.{Way as WayRead}
 use Rattle.submission.specs.declared.ClaimBytes.{ClaimBytes}
 use Rattle.derivation.specs.Step.{written}
 use Rattle.program.specs.declared.Instruction.{Instruction as InstructionRead}
 use Rattle.program.specs.declared.Test.{Test as TestRead}
-use Rattle.program.specs.{Program.Instruction, Program.relationOf, Program.instructionAt, Program.testAt, Program.RegistersFit, Code.instructionIn, Code.testIn, Computed.badProgram}
+use Rattle.program.specs.{Program.relationOf, Program.instructionAt, Program.testAt, Program.RegistersFit, Code.instructionIn, Code.testIn, Computed.badProgram}
 use Rattle.program.proofs.theory.Check13.{program-iff, right-fits}
 use Rattle.machine.specs.Code.{RegisterNumbers}
 use Rattle.machine.proofs.theory.StartState.{facts}

@@ -1,8 +1,8 @@
 -- What is promised of reading back: document 02, A6.
 use Rattle.base.specs.{Words._≡_, Words.List, Words.ℕ, Words._≤_, Words._<_, Words.length, Words.byte, Words.Bytes, Answer.done, Answer.Clear}
-use Rattle.submission.specs.{Record.steps, Record.guess, Body.bodies, Body.bodyAt, Body.submissionOf, Check.rows1to4, Check.rows1to5}
-use Rattle.derivation.specs.Step.{concluded, StepFits, written}
-use Rattle.program.specs.Program.{bytesOf}
+use Rattle.submission.specs.{Record.steps, Record.ruleAt, Record.guess, Body.bodies, Body.bodyAt, Body.submissionOf, Check.rows1to4, Check.rows1to5}
+use Rattle.derivation.specs.Step.{firstPremise, secondPremise, concluded, StepFits, written}
+use Rattle.program.specs.Program.{instructionAt, operand, bytesOf}
 use Rattle.machine.specs.Run.{held}
 use Rattle.conditions.specs.{Calls.program, Computed.checkAnswer}
 use Rattle.readback.specs.{ReadBack.derivationRead, ReadBack.claimRead, ReadBack.bodiesRead, ReadBack.bodiesLength, Computed.readBackAnswer}
@@ -16,6 +16,15 @@ pub record SameStart (s s′ : List ℕ) : Type 0 where
   pub terms : bodyAt s 0 ≡ bodyAt s′ 0
   pub knowledge : bodyAt s 1 ≡ bodyAt s′ 1
   pub guess : guess s ≡ guess s′
+
+-- step i of r is instruction i of P, over the terms that the registers hold with the right guess
+pub record StepRight (r s P : List ℕ) (i : ℕ) : Type 0 where
+  -- it is right in rule, numbers and shape: check 6
+  pub fits : StepFits r i
+  pub rule : ruleAt r i ≡ instructionAt P i .rule
+  pub first : firstPremise r i ≡ held s P (instructionAt P i .left)
+  pub second : secondPremise r i ≡ held s P (operand (instructionAt P i))
+  pub result : concluded r i ≡ held s P (written s i)
 
 -- A6's promises about every submission s and every program P
 pub record ReadBackPromise : Type 0 where
@@ -38,6 +47,5 @@ pub record ReadBackPromise : Type 0 where
   -- with a step for each instruction;
   pub reads : (s P : List ℕ) → Bytes s → (room n : ℕ) → readBackAnswer s P room ≡ done n →
       Clear (rows1to4 (replaced s P)) × SameStart (replaced s P) s × (steps (replaced s P) ≡ byte P 0)
-  -- each step is one of the table of steps, and it concludes "what the machine holds with the right guess"
-  pub right : (s P : List ℕ) → Bytes s → (room n : ℕ) → readBackAnswer s P room ≡ done n → (i : ℕ) → i < byte P 0 →
-      StepFits (replaced s P) i × (concluded (replaced s P) i ≡ held s P (written s i))
+  -- each step is one of the table of steps, from and to "what the machine holds with the right guess"
+  pub right : (s P : List ℕ) → Bytes s → (room n : ℕ) → readBackAnswer s P room ≡ done n → (i : ℕ) → i < byte P 0 → StepRight (replaced s P) s P i

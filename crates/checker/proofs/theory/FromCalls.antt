@@ -24,15 +24,14 @@ use Rattle.inverse.proofs.theory.InversesAnswer.{inverses-exact, inverses-promi
 use Rattle.deduction.specs.{Deduce.deducibleRows, Computed.deducibleAnswer}
 use Rattle.deduction.proofs.theory.DeducibleAnswer.{deducible-exact, yes-exact, no-exact}
 use Rattle.program.specs.Program.{bytesOf, programLength}
-use Rattle.derivation.specs.Step.{concluded, StepFits, written as registerOf}
-use Rattle.machine.specs.{Run.held, Run.StaleName, Run.programRows, Run.runRows, Run.signal, Computed.isStaleName, Computed.runAnswer}
+use Rattle.machine.specs.{Run.StaleName, Run.programRows, Run.runRows, Run.signal, Computed.isStaleName, Computed.runAnswer}
 use Rattle.machine.proofs.theory.{RunAnswer.says-stale-name, RunAnswer.run-exact, StaleNames.stale-exact, StaleNames.taken-clear, StaleNames.taken-fresh}
 use Rattle.conditions.specs.declared.Verdict.{Verdict}
 use Rattle.conditions.specs.declared.Verdict.the-variants.{Accepted, Refused}
 use Rattle.conditions.specs.{Calls.verdictAnswer, Calls.Checked, Calls.program, Condition.WellFormed, Condition.target, Condition.FiveConditions, Condition.claimRows, Condition.checkRows, Demand.WrongGuess, Demand.KeptPromise}
 use Rattle.conditions.proofs.theory.{Acceptance.accepted-iff, KnownGuess.target-deducible, KnownGuess.guess-hidden, Promise.demand-3, Refusal.check-exact}
 use Rattle.conditions.specs.Computed.{checkAnswer}
-use Rattle.readback.specs.{ReadBack.derivationRead, ReadBack.claimRead, ReadBack.bodiesRead, ReadBack.bodiesLength, ReadBack.readBackRows, Computed.readBackAnswer, Promise.replaced, Calls.BodiesWritten}
+use Rattle.readback.specs.{ReadBack.derivationRead, ReadBack.claimRead, ReadBack.bodiesRead, ReadBack.bodiesLength, ReadBack.readBackRows, Computed.readBackAnswer, Promise.replaced, Promise.StepRight, Calls.BodiesWritten}
 use Rattle.readback.proofs.theory.{ReadBackAnswer.read-back-exact, RoundTrip.read-back-promise}
 use Rattle.checker.specs.Demand.{Demand1}
 
@@ -253,7 +252,7 @@ module _ (s P page page′ : List ℕ) (r : AnswerGiven) (bytes : Bytes s) (call
     read-back-stands = stands call answered-so (read-back-accepts n .0 written .1 ∙ sym (read-back-promise .long s P))
 
     -- in the place of the submission's own they pass checks 1 to 4, and each step is right
-    pub read-back-right : Clear (rows1to4 (replaced s P)) × ((i : ℕ) → i < byte P 0 → StepFits (replaced s P) i × (concluded (replaced s P) i ≡ held s P (registerOf s i)))
+    pub read-back-right : Clear (rows1to4 (replaced s P)) × ((i : ℕ) → i < byte P 0 → StepRight (replaced s P) s P i)
     read-back-right = (read-back-promise .reads s P bytes (length page) n answered-so .0, read-back-promise .right s P bytes (length page) n answered-so)
 
 -- ---- A6: a call of `check` on s and page that accepted with n and left page′, and one of `read_back` with the program on that page and a sheet

@@ -6,7 +6,7 @@ use mathlib.Core.List.{List, [], _∷_, _++_}
 use mathlib.Core.Option.{Option, none, some}
 use Prim.Native.Nat.{ℕ, zero, suc, _+_, _-_, _*_, _≤_, _<_}
 use native.Mathlib.Omega.{arith}
-use lib.ListN.{length, getD, take, drop, length-drop}
+use lib.ListN.{length, take, drop, length-drop}
 use lib.Seq.{take-add, getD-drop}
 use borrow.Author.Tests.{lt-ltb, le-ltb, eq-eqb, ne-eqb}
 use lib.Dec.{eqb, ltb}
@@ -16,13 +16,13 @@ use Rattle.base.proofs.Order.{lt-or-ge}
 use Rattle.term.specs.Number.{hasOne}
 use Rattle.submission.specs.Record.{count, start, startOf, terms, entries, steps, ruleAt, pAt, qAt, secondAt, conclusionAt, guess, verifying, wayAt, companion, entryAt, nameAt, term}
 use Rattle.submission.specs.Body.{bodyAt}
-use Rattle.submission.specs.Check.{Way, another-step, at-start, inverse-key, guess-derived, inverse-derived, wayOf, Target, the-guess, its-inverse, verifier, derived, claimsIn, InRange, knowledgeStep, given-register, row, rows1and2}
+use Rattle.submission.specs.Check.{Way, another-step, at-start, inverse-key, guess-derived, inverse-derived, wayOf, Target, the-guess, its-inverse, claimsIn, InRange, knowledgeStep, given-register, row, rows1and2}
 use Rattle.submission.proofs.theory.{ListedTerms.Claimed, ListedTerms.way-letter, ReadingRows.claimed-clear, ReadingRows.contents-fit, ReadingRows.first-two}
 use Rattle.derivation.specs.{Step.written, Step.concluded, Computed.isKnown}
 use Rattle.derivation.proofs.theory.RegisterTerms.{Written, entry, guessed, result, written-cases}
-use Rattle.program.specs.Program.{relationOf, bytesOf, instructionAt, testAt, Instruction}
+use Rattle.program.specs.Program.{relationOf, bytesOf, testAt, Instruction}
 use Rattle.program.proofs.theory.Bytes.{byte-count, test-back}
-use Rattle.machine.specs.Run.{registers, held}
+use Rattle.machine.specs.Run.{held}
 use Rattle.machine.proofs.theory.RunRegisters.{register-entry, register-guess}
 use Rattle.conditions.specs.{Calls.lowest, Calls.entryGiven, Calls.named, Calls.instruction, Calls.program, Calls.testFor, Condition.WellFormed, Condition.FiveConditions, Condition.Verified, Condition.Given, Condition.target, Condition.ClaimMet, Condition.SecondWay}
 use Rattle.conditions.proofs.theory.ProgramRun.{lowest-known, program-steps, instruction-read, value}

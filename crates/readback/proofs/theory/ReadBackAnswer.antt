@@ -1,22 +1,20 @@
 -- Reading back answers as its rows and their order say; and where it is done, each register's term has its number.
-use mathlib.Core.Path.{_≡_, refl, sym, ap, _∙_}
-use mathlib.Core.Logic.{_↔_, ⊎-elim, ite}
-use mathlib.Core.Bool.{Bool, true, false, not}
-use mathlib.Core.List.{List, [], _∷_, _++_}
-use mathlib.Core.Option.{some}
+use mathlib.Core.Path.{_≡_, sym, _∙_}
+use mathlib.Core.Logic.{_↔_}
+use mathlib.Core.Bool.{false}
+use mathlib.Core.List.{List, [], _∷_}
 use Prim.Native.Nat.{ℕ, _<_}
 use native.Mathlib.Omega.{arith}
-use lib.Dec.{eqb, ltb}
-use Rattle.base.specs.{Words.first, Words.byte, Words.Bytes, Answer.Answer, Answer.done, Answer.numbered, Answer.row11, Answer.Clear, Answer.Answers, Computed.any, Computed.passes, Computed.failsAt, Computed.failsIf, Computed.checkRoom, Computed.andThen}
+use Rattle.base.specs.{Words.first, Words.byte, Words.Bytes, Answer.Answer, Answer.numbered, Answer.row11, Answer.Answers, Computed.any, Computed.failsAt, Computed.failsIf, Computed.andThen}
 use Rattle.base.proofs.{Says.Says, Says.says-eqb, Says.says-ltb, Says.says-and, Says.says-or, Says.says-not, Says.says-any, Says.denies, Says.not-not-false, First.first-some, First.first-found, FirstGrowing.any-first}
-use Rattle.base.proofs.RefusalLaws.{Tells, answers-iff, clear-split, tells-if, tells-at, tells-room, tells-then}
+use Rattle.base.proofs.RefusalLaws.{answers-iff, tells-if, tells-at, tells-room, tells-then}
 use Rattle.term.proofs.Reduce.{says-test}
 use Rattle.term.specs.Computed.{term?}
 use Rattle.submission.specs.{Record.terms, Record.entries, Record.term, Computed.checks1to5}
 use Rattle.submission.proofs.theory.ListedTerms.{Listed}
 use Rattle.derivation.specs.Step.{written}
 use Rattle.program.specs.{Program.Instruction, Program.testAt, Computed.badProgram}
-use Rattle.machine.specs.Run.{held, programRows}
+use Rattle.machine.specs.Run.{held}
 use Rattle.machine.proofs.theory.RunAnswer.{tells-program}
 use Rattle.readback.specs.ReadBack.{holdsNumber, number, bodiesLength, OffTable, NoClaim, readBackRows}
 use Rattle.readback.specs.Computed.{offTable, noClaim, checksAfter13, readBackAnswer}

@@ -1,29 +1,28 @@
 -- The bodies read back, in the place of a submission's own: the submission passes checks 1 to 4, and each step is one of the table of steps.
-use mathlib.Core.Path.{_≡_, refl, sym, ap, ap₂, _∙_, subst, subst₃}
+use mathlib.Core.Path.{_≡_, refl, sym, ap, ap₂, _∙_, subst}
 use mathlib.Core.Logic.{_⊎_, inl, inr, ⊎-elim}
 use mathlib.Core.Bool.{Bool, true, false, cond}
 use mathlib.Core.List.{List, [], _∷_, _++_}
-use mathlib.Core.Option.{some}
 use Prim.Native.Nat.{ℕ, zero, suc, _+_, _*_, _≤_, _<_}
 use native.Mathlib.Omega.{arith}
 use lib.ListN.{length, getD, length-append, List·getD-append}
 use lib.Seq.{getD-append-add}
 use Rattle.base.specs.{Words.byte, Words.Bytes, Answer.done, Answer.Clear, Answer.numbered}
 use Rattle.base.proofs.{Order.lt-or-ge, Says.denies, Says.refutes, Says.each-of-four, RefusalLaws.clear-split}
-use Rattle.term.specs.{Term.Term, Term.Head, Term.Second, Term.absent, Term.anything, Term.keyFor, Term.second, Term.Shape, Term.atomic, Term.compound, Term.isKeyFor, Term.single, Term.void, Number.shapeOf, Number.headOf, Number.hasOne, Reduce.op, Step.Step, Code.Message}
+use Rattle.term.specs.{Term.Head, Term.Second, Term.absent, Term.anything, Term.keyFor, Term.second, Term.Shape, Term.atomic, Term.compound, Term.isKeyFor, Term.single, Term.void, Number.shapeOf, Number.headOf, Number.hasOne, Reduce.op, Step.Step, Code.Message}
 use Rattle.term.proofs.Reduce.{op-step}
-use Rattle.submission.specs.Record.{count, width, least, most, start, terms, entries, steps, kindAt, xAt, yAt, entryAt, ruleAt, pAt, qAt, secondAt, conclusionAt, guess, nameAt, term}
-use Rattle.submission.specs.Body.{Bodies, bodies, body, records, bodyAt, bodiesOf, submissionOf}
+use Rattle.submission.specs.Record.{count, width, least, most, start, terms, entries, steps, kindAt, yAt, entryAt, ruleAt, pAt, qAt, secondAt, conclusionAt, guess, nameAt, term}
+use Rattle.submission.specs.Body.{Bodies, bodies, body, records, bodyAt, submissionOf}
 use Rattle.submission.specs.Check.{HasSecond, Shaped, BadTerm, rows1and2, rows1to4, rows1to5}
 use Rattle.submission.proofs.theory.{ListedTerms.Claimed, ReadingRows.claimed-clear, ReadingRows.first-four, ReadingRows.first-two}
-use Rattle.form.specs.Write.{ReadsAs, writeRows}
+use Rattle.form.specs.Write.{ReadsAs}
 use Rattle.form.proofs.theory.{WriteAnswer.write-exact, RoundTrip.form-promise, RoundTrip.counts, RoundTrip.body-length}
 use Rattle.derivation.specs.Step.{concluded, StepFits, written}
-use Rattle.program.specs.{Program.Instruction, Program.instructionAt, Program.operand, Program.ProgramFits, Computed.badProgram}
+use Rattle.program.specs.{Program.Instruction, Program.instructionAt, Program.operand, Program.ProgramFits}
 use Rattle.program.proofs.theory.Check13.{program-iff, operand-fits}
 use Rattle.machine.specs.Run.{registers, executed, held, programRows}
 use Rattle.machine.proofs.theory.RunRegisters.{register-kept, register-written}
-use Rattle.readback.specs.{ReadBack.number, ReadBack.stepRead, ReadBack.stepsRead, ReadBack.derivationRead, ReadBack.claimRead, ReadBack.bodiesRead, ReadBack.bodiesLength, ReadBack.readBackRows, Computed.readBackAnswer, Computed.offTable, Promise.replaced, Promise.SameStart}
+use Rattle.readback.specs.{ReadBack.number, ReadBack.stepRead, ReadBack.stepsRead, ReadBack.derivationRead, ReadBack.claimRead, ReadBack.bodiesRead, ReadBack.bodiesLength, ReadBack.readBackRows, Computed.readBackAnswer, Computed.offTable, Promise.replaced, Promise.SameStart, Promise.StepRight}
 use Rattle.readback.proofs.theory.ReadBackAnswer.{says-off-table, laterRows, read-back-exact, number-found}
 use Rattle.readback.proofs.theory.SameSubmissions.{body-byte, Agree, agree, term-alike}
 
@@ -234,10 +233,10 @@ module _ (s P : List ℕ) (bytes : Bytes s) (room n : ℕ) (read : readBackAnswe
         go true h = claim .read .terms-least
         go false h = numbered-at (x .right) (low (x .right) (h refl)) .0
 
-    pub concluded-held : concluded r i ≡ held s P (written s i)
+    concluded-held : concluded r i ≡ held s P (written s i)
     concluded-held = ap (term r) conclusion-is ∙ term-held (written s i) (omega arith)
 
-    pub step-fits : StepFits r i
+    step-fits : StepFits r i
     step-fits = record {
       rule-below = rw rule-is (fits .rules-right i l);
       p-below = rw (p-is, same .same-terms) (numbered-at (x .left) (low (x .left) (registers-fit .0)) .0);
@@ -246,3 +245,6 @@ module _ (s P : List ℕ) (bytes : Bytes s) (room n : ℕ) (read : readBackAnswe
       unused = λ e. let f : hasOne (x .rule) ≡ true = sym (ap hasOne rule-is) ∙ e in q-is ∙ rw f;
       step = rw (rule-is, first-held, second-held, concluded-held) step-held;
     }
+
+    pub step-right : StepRight r s P i
+    step-right = record { fits = step-fits; rule = rule-is; first = first-held; second = second-held; result = concluded-held }

@@ -1,20 +1,18 @@
 -- A6's promises: an accepted page gives back its own derivation and claim; these, checked again, yield that page; and what is read back of any
 -- program are steps of the table of steps.
-use mathlib.Core.Path.{_≡_, refl, sym, ap, ap₂, _∙_}
-use mathlib.Core.Logic.{⊎-elim}
-use mathlib.Core.Bool.{Bool, true, false, not, true≢false}
-use mathlib.Core.List.{List, [], _∷_, _++_}
+use mathlib.Core.Path.{_≡_, sym, ap, ap₂, _∙_}
+use mathlib.Core.Bool.{true, false, true≢false}
+use mathlib.Core.List.{List}
 use Prim.Native.Nat.{ℕ, _+_, _≤_, _<_}
 use native.Mathlib.Omega.{arith}
-use lib.Dec.{eqb, ltb}
-use Rattle.base.specs.{Words.Bytes, Words.byte, Words.first, Answer.done, Answer.Clear, Computed.any, Computed.passes}
+use Rattle.base.specs.{Words.Bytes, Words.byte, Words.first, Answer.done, Answer.Clear, Computed.passes}
 use Rattle.base.proofs.{First.first-equal, Says.same-test, RefusalLaws.passes-iff, RefusalLaws.both-clear}
-use Rattle.submission.specs.{Record.terms, Record.entries, Record.steps, Record.guess, Record.term, Body.bodies, Body.bodyAt, Body.submissionOf, Check.rows1to5, Computed.checks1to5}
+use Rattle.submission.specs.{Record.terms, Record.steps, Record.guess, Body.bodies, Body.bodyAt, Body.submissionOf, Check.rows1to5, Computed.checks1to5}
 use Rattle.submission.proofs.theory.ReadingRows.{tells-1-to-5, claimed-clear, first-two}
 use Rattle.form.proofs.theory.RoundTrip.{form-promise}
 use Rattle.derivation.specs.Step.{written}
 use Rattle.program.specs.{Program.bytesOf, Program.testAt, Computed.badProgram}
-use Rattle.machine.specs.Run.{held, programRows}
+use Rattle.machine.specs.Run.{programRows}
 use Rattle.machine.proofs.theory.RunAnswer.{tells-program}
 use Rattle.conditions.specs.{Calls.program, Condition.WellFormed, Condition.FiveConditions, Computed.checkAnswer}
 use Rattle.conditions.proofs.theory.{Acceptance.accepted-iff, Signal.program-good}
@@ -22,7 +20,7 @@ use Rattle.readback.specs.{ReadBack.derivationRead, ReadBack.claimRead, 
 use Rattle.readback.proofs.theory.ReadBackAnswer.{says-off-table, laterRows, read-back-exact}
 use Rattle.readback.proofs.theory.SameSubmissions.{Agree, same-agree, term-alike, held-alike, steps-alike, claim-alike}
 use Rattle.readback.proofs.theory.OwnPage.{own-count, own-listed, own-derivation, own-claim, own-claims}
-use Rattle.readback.proofs.theory.ReplacedBodies.{bodies-length, same-start, step-count, passes-four, concluded-held, step-fits}
+use Rattle.readback.proofs.theory.ReplacedBodies.{bodies-length, same-start, step-count, passes-four, step-right}
 
 -- ---- the page of an acceptance
 module _ (s : List ℕ) (b : Bytes s) (w : WellFormed s) (c : FiveConditions s) where
@@ -93,5 +91,5 @@ read-back-promise = record {
       let q = returned b b′ (w .read) c′ g w c in
       (ap (λ x. checkAnswer x room) q ∙ e, ap program q);
   reads = λ s P b room n e. (passes-four s P b room n e, same-start s P b room n e, step-count s P b room n e);
-  right = λ s P b room n e i l. (step-fits s P b room n e i l, concluded-held s P b room n e i l);
+  right = step-right;
 }

@@ -4,16 +4,16 @@ use mathlib.Core.Logic.{ite}
 use mathlib.Core.Bool.{true, false}
 use mathlib.Core.Option.{none, some}
 use mathlib.Core.List.{List, [], _∷_, _++_}
-use Prim.Native.Nat.{ℕ, zero, suc, _+_, _*_, _≤_, _<_}
+use Prim.Native.Nat.{ℕ, zero, suc, _+_, _*_, _<_}
 use native.Mathlib.Omega.{arith}
-use lib.ListN.{length, getD, take, drop}
+use lib.ListN.{length, getD, drop}
 use lib.Seq.{getD-take, getD-drop}
 use Rattle.base.specs.Words.{Bytes, byte, first, grow, listed}
 use Rattle.base.specs.Answer.{Clear}
 use Rattle.base.proofs.{Grow.grow-alike, First.first-equal}
 use Rattle.term.specs.Term.{atom, atomKind, void, decoded}
 use Rattle.term.specs.Computed.{term?}
-use Rattle.submission.specs.Record.{count, width, startOf, start, terms, entries, kindAt, xAt, yAt, nameAt, entryAt, guess, recordOf, recordAt, term, guessed}
+use Rattle.submission.specs.Record.{count, width, start, terms, entries, kindAt, xAt, yAt, nameAt, entryAt, guess, recordAt, term, guessed}
 use Rattle.term.specs.Number.{shapeOf}
 use Rattle.submission.specs.Body.{bodyAt}
 use Rattle.submission.specs.Check.{Range, step-number, term-number, zero-only, step-or-knowledge, row, rows1and2}
