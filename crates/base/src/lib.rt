@@ -1,6 +1,8 @@
 // What every crate above uses: bytes and wide numbers, bytes put into a buffer, what a check and a call answer; in specs/ and proofs/ also
 // the first failing place of a scan and a list grown at its end.
 // Promises: every function is total, and its answer and the bytes that it stores are what the definitions of specs/ give.
+#![tactic(auto)]
+
 ghost use Rattle.std.specs.Prelude.{◌≡◌, [], ◌∷◌, ◌+◌, ◌*◌, ◌≤◌, ◌<◌, length, take};
 ghost use Rattle.std.proofs.lemmas.List.Edits.{sets};
 ghost use Rattle.base.specs.Answer.{done, answer_of, Puts};

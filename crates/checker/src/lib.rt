@@ -1,5 +1,7 @@
 // The public calls together: `check`, `deducible`, `deduction`, `run`, `write`, `inverses` and `read_back`, the text of a verdict, and the calls for C.
 // Promises: every call is total, for all bytes, and its answer and the bytes that it writes are what the definitions of specs/ give.
+#![tactic(auto)]
+
 mod calls;
 
 ghost use Rattle.std.specs.Prelude.{replicate};

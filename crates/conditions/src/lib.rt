@@ -1,5 +1,7 @@
 // The verdict on a submission: the five conditions, or that the guess or its inverse is derived, and the register program of an accepted one.
 // Promises: every call is total, and its answer and the page's later bytes are what the definitions of specs/ give.
+#![tactic(auto)]
+
 mod conditions;
 mod given;
 mod page;

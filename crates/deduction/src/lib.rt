@@ -6,6 +6,8 @@
 // record is opened, and the records that wait for it are looked at, for it as the key that opens them and, where a compound term is a key,
 // as a part to be built from. A record waits for one key and two parts, so it is looked at four times at most. The build test keeps its
 // answers, so it decides each term once. So the cost grows as T does.
+#![tactic(auto)]
+
 ghost use Rattle.std.specs.Prelude.{◌≡◌, ◌&&◌, ◌<◌, ◌≤◌, length, get_or, replicate};
 ghost use Rattle.submission.specs.Record.{terms, record_at};
 ghost use Rattle.deduction.specs.Computed.{built, entry_marks, is_deducible, deducible_answer};

@@ -1,5 +1,7 @@
 // The steps of a derivation: checks 6 and 7, and the registers that hold their terms.
 // Promises: every function is total, and its answer is what the definitions of specs/ give.
+#![tactic(auto)]
+
 ghost use Rattle.std.specs.Prelude.{◌≡◌, ◌&&◌, ◌<◌, eqb, get_or};
 ghost use Rattle.term.specs.Term.{asymmetric, pair, encryption, compound};
 ghost use Rattle.term.specs.Number.{shape_of, rules as rule_count, head_of};

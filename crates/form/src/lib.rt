@@ -1,5 +1,7 @@
 // A submission written from its four bodies, as the intake form holds them: document 02, A1.
 // Promises: every function is total, and its answer and the page's later bytes are what the definitions of specs/ give.
+#![tactic(auto)]
+
 ghost use Rattle.std.specs.Prelude.{◌≡◌, [], ◌∷◌, ◌/◌, ◌%◌, ◌<◌};
 ghost use Rattle.base.specs.Answer.{Puts};
 ghost use Rattle.base.specs.Code.{check_of};

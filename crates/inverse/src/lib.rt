@@ -1,6 +1,8 @@
 // The inverse of each listed term, found in one pass: document 02, A4.
 // Promises: every function is total, and its answer and the page's later bytes are what the definitions of specs/ give.
 // Cost: one pass over the terms. A key is compared with the earlier keys whose names have the same last byte; nothing else is compared.
+#![tactic(auto)]
+
 ghost use Rattle.std.specs.Prelude.{◌≡◌, ◌&&◌, ◌+◌, ◌<◌, eqb, length};
 ghost use Rattle.base.specs.Code.{Chained, Chaining};
 ghost use Rattle.term.specs.Computed.{inverse_kinds};

@@ -2,6 +2,8 @@
 // Promises: every function is total, for all bytes, and its answer is what the definitions of specs/ give.
 // Cost, for T terms and N instructions: terms are held shared, so an instruction adds at most one node, however large its term is as a
 // tree, after one look through at most T + 1 + N nodes. Whether a name is stale takes one look at each term.
+#![tactic(auto)]
+
 ghost use Rattle.std.specs.Prelude.{◌≡◌, false, cond, ◌+◌, ◌≤◌, ◌<◌, length, get_or};
 ghost use Rattle.base.specs.Words.{first};
 ghost use Rattle.term.specs.Term.{pick};

@@ -1,5 +1,7 @@
 // Register programs: a list of instructions and a test, their bytes, and check 13.
 // Promises: every function is total, and its answer is what the definitions of specs/ give.
+#![tactic(auto)]
+
 ghost use Rattle.std.specs.Prelude.{◌≡◌, [], ◌∷◌, ◌++◌, ◌+◌, ◌*◌, ◌≤◌, ◌<◌, length, drop};
 ghost use Rattle.std.proofs.lemmas.List.Edits.{sets};
 ghost use Rattle.base.specs.Words.{listed, byte as byte_at};

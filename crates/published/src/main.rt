@@ -1,5 +1,7 @@
 // Tries the published examples: reads a bundle of submissions from standard input, each after its length in two bytes, high byte first,
 // and prints the verdict on each. Promises nothing of its own; what it must print is stored beside it.
+#![tactic(auto)]
+
 use libc::{STDIN_FILENO, STDOUT_FILENO};
 
 fn print_verdict(s: &[u8]) {

@@ -1,5 +1,7 @@
 // From a program back to its derivation and its claim: document 02, A6.
 // Promises: every function is total, for all bytes, and its answer and the page's later bytes are what the definitions of specs/ give.
+#![tactic(auto)]
+
 ghost use Rattle.std.specs.Prelude.{◌≡◌, false, cond, eqb, ltb, ◌+◌, ◌-◌, ◌<◌, length, get_or};
 ghost use Rattle.std.proofs.Math.Option.{some};
 ghost use Rattle.base.specs.Answer.{Puts};

@@ -1,5 +1,7 @@
 // A submission's bytes as records, and checks 1 to 5.
 // Promises: every function is total, for all bytes, and its answer is what the definitions of specs/ give.
+#![tactic(auto)]
+
 ghost use Rattle.std.specs.Prelude.{◌≡◌, ◌&&◌, not, ◌+◌, ◌*◌, ◌%◌, ◌<◌, eqb, get_or};
 ghost use Rattle.base.specs.Words.{first, byte as byte_at};
 ghost use Rattle.term.specs.Number.{shape_of};

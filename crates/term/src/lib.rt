@@ -1,5 +1,7 @@
 // Messages, the machine's reductions and Dolev-Yao steps, over all terms, with their laws; and the tables of kinds and rules.
 // Promises: every function is total, for all bytes, and its answer is the table's, as specs/ has it.
+#![tactic(auto)]
+
 pub mod kinds;
 pub mod rules;
 

@@ -1,6 +1,8 @@
 // Reads a submission from standard input and prints its verdict. Where a read or the write fails it says so on standard error, and
 // nothing stands there otherwise: a program has no status, and ./verdict goes by this.
 // Promises nothing of its own: the text is the library's `write_verdict`; reading and writing are what io and libc assume.
+#![tactic(auto)]
+
 ghost use Rattle.verdict.specs.Code.{Within};
 
 use libc::{STDERR_FILENO, STDIN_FILENO, STDOUT_FILENO};

@@ -2,6 +2,8 @@
 // Promises: `deduction` is total, for all bytes and a page of any length; its answer is what the definition `deduction_answer` gives, yes exactly when
 // some finite list of Dolev-Yao steps reaches the term from the knowledge; and the steps that it writes are such a list (`Deduction`).
 // Cost, for T terms: the working of `deduction::reach_all`, then two passes over the terms that are reached.
+#![tactic(auto)]
+
 ghost use Rattle.std.specs.Prelude.{◌≡◌, suc, ◌-◌, ◌<◌, ◌≤◌, length, get_or};
 ghost use Rattle.base.specs.Answer.{answer_of, Puts};
 ghost use Rattle.submission.specs.Record.{terms};
