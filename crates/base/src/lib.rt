@@ -11,14 +11,14 @@ ghost use Rattle.base.specs.Code.{check_of};
 ghost use Rattle.base.specs.Computed.{answered};
 
 // What a check answers: go on, or the refusal's number and place.
-#[derive(Drop)]
+#[derive(Clone, Copy)]
 pub enum Stage {
     Passed,
     Refused { number: u8, place: u16 },
 }
 
 // What a call answers: a value, or the refusal's number and place.
-#[derive(Drop)]
+#[derive(Clone, Copy)]
 pub enum Answer {
     Done(u16),
     Refused { number: u8, place: u16 },

@@ -22,7 +22,7 @@ use base::{Answer, Stage};
 use submission::{Claim, Reading};
 
 // An acceptance carries the count of steps, a refusal its number and place.
-#[derive(Drop)]
+#[derive(Clone, Copy)]
 pub enum Verdict {
     Accepted(u8),
     Refused { number: u8, place: u16 },

@@ -46,7 +46,7 @@ pub fn knowledge_marks(s: &[u8]) -> Marks
 }
 
 // The parts that a term is built from: an atom has none.
-#[derive(Drop)]
+#[derive(Clone, Copy)]
 pub enum Parts {
     Nothing,
     Both { x: u8, y: u8 },
@@ -116,7 +116,7 @@ fn is_missing(s: &[u8], known: &[u8; 256], k: u8) -> bool
 }
 
 // What opens a record: a pair gives both parts freely, an encryption its body where the key can be built, and anything else nothing.
-#[derive(Drop)]
+#[derive(Clone, Copy)]
 pub enum Opening {
     Freely { x: u8, y: u8 },
     With { body: u8, key: u8 },
@@ -156,7 +156,7 @@ pub fn opening_of(s: &[u8], inverses: &[u8; 256], t: u8) -> Opening
 }
 
 // As what a record waits for a term: as the key that opens it, or as its first or its second part, to be built from.
-#[derive(Drop)]
+#[derive(Clone, Copy)]
 pub enum Role {
     Key,
     First,
@@ -164,7 +164,7 @@ pub enum Role {
 }
 
 // From `term` and `other`, `result`.
-#[derive(Drop)]
+#[derive(Clone, Copy)]
 pub enum Clause {
     Absent,
     From { term: u8, other: u8, result: u8 },

@@ -21,7 +21,7 @@ use submission::{Claim, Claims, Term};
 use term::{kinds, rules};
 
 // A step's record.
-#[derive(Drop)]
+#[derive(Clone, Copy)]
 pub struct Step {
     pub rule: u8,
     pub p: u8,

@@ -37,7 +37,7 @@ const PRIVATE: u8 = ATOM + kinds::PRIVATE;
 
 // A term as a node. A head below ATOM is a rule's number, and the node is that rule's word over two nodes; a rule with one operand has its node twice.
 // An atom has its name on the left.
-#[derive(Drop)]
+#[derive(Clone, Copy)]
 pub struct Node {
     pub head: u8,
     pub left: u16,
@@ -56,20 +56,20 @@ pub struct Machine {
 }
 
 // A node's number, where there is such a node.
-#[derive(Drop)]
+#[derive(Clone, Copy)]
 pub enum Found {
     At(u16),
     Nothing,
 }
 
 // enc and dec take one key, enca and deca a key and its inverse.
-#[derive(Drop)]
+#[derive(Clone, Copy)]
 pub enum Cipher {
     Symmetric,
     Asymmetric,
 }
 
-#[derive(Drop)]
+#[derive(Clone, Copy)]
 pub enum Side {
     Left,
     Right,
@@ -136,7 +136,7 @@ fn do_match(cipher: Cipher, k: u16, j: u16, x: Node, y: Node) -> bool
 // ---- The reductions: what a rule's word over nodes gives, where that is no new term.
 
 // What the reductions look at: the nodes of the operands, and the node of the left one's right operand, its key.
-#[derive(Drop)]
+#[derive(Clone, Copy)]
 pub struct Operands {
     pub left: Node,
     pub right: Node,

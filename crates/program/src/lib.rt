@@ -21,7 +21,7 @@ pub const EQUAL: u8 = b'=';
 pub const INVERSE: u8 = b'i';
 
 // What a test asks of the registers' terms, where it is one.
-#[derive(Drop)]
+#[derive(Clone, Copy)]
 pub enum Asked {
     Asks(Relation),
     Nothing,
@@ -60,7 +60,7 @@ fn registers_of(relation: Relation) -> u8
 // ---- Programs.
 
 // One instruction: a rule and the registers of its operands.
-#[derive(Drop)]
+#[derive(Clone, Copy)]
 pub struct Instruction {
     pub rule: u8,
     pub left: u8,
@@ -68,7 +68,7 @@ pub struct Instruction {
 }
 
 // The test that ends a program: a letter and two registers.
-#[derive(Drop)]
+#[derive(Clone, Copy)]
 pub struct Test {
     pub letter: u8,
     pub left: u8,

@@ -71,7 +71,7 @@ fn end(s: &[u8]) -> usize
 }
 
 // A term's record.
-#[derive(Drop)]
+#[derive(Clone, Copy)]
 pub struct Term {
     pub kind: u8,
     pub x: u8,
@@ -107,7 +107,7 @@ pub fn name_of(t: Term) -> u16
 }
 
 // The claim's four bytes.
-#[derive(Drop)]
+#[derive(Clone, Copy)]
 pub struct ClaimBytes {
     pub guess: u8,
     pub step: u8,
@@ -380,7 +380,7 @@ pub fn check_knowledge(s: &[u8]) -> Stage
 
 // Way a: another step concludes the same term; way b: it is known at the start; way c: its inverse key is known; way k: the guess is
 // derived; way j: its inverse is.
-#[derive(Drop)]
+#[derive(Clone, Copy)]
 pub enum Way {
     AnotherStep,
     AtStart,
@@ -390,7 +390,7 @@ pub enum Way {
 }
 
 // What a letter stands for.
-#[derive(Drop)]
+#[derive(Clone, Copy)]
 pub enum Letter {
     Stands(Way),
     Stranger,
@@ -410,21 +410,21 @@ fn way_of(letter: u8) -> Letter
 }
 
 // What is derived: the guess, or its inverse.
-#[derive(Drop)]
+#[derive(Clone, Copy)]
 pub enum Target {
     Guess,
     Inverse,
 }
 
 // What a way claims: a verifier, or that the guess or its inverse is derived, and then the guess doesn't count as known.
-#[derive(Drop)]
+#[derive(Clone, Copy)]
 pub enum Claims {
     Verifier,
     Derived(Target),
 }
 
 // What a number of the claim may be: a step's, a term's, 0 only, or a step's or KNOWLEDGE_STEP.
-#[derive(Drop)]
+#[derive(Clone, Copy)]
 pub enum Range {
     Step,
     Term,
@@ -437,7 +437,7 @@ pub const KNOWLEDGE_STEP: u8 = 255;
 
 // A register that the test names: of the verifying step or of the companion step, the lowest that holds the conclusion or the companion, the
 // guess's, or that of what gives the term claimed.
-#[derive(Drop)]
+#[derive(Clone, Copy)]
 pub enum Operand {
     VerifyingResult,
     CompanionResult,
@@ -449,7 +449,7 @@ pub enum Operand {
 
 // A way's row of the table: its letter, what is claimed, the ranges of the step and of the companion, whether the companion must undo nothing, and the
 // test.
-#[derive(Drop)]
+#[derive(Clone, Copy)]
 pub struct Row {
     pub letter: u8,
     pub claims: Claims,
@@ -521,7 +521,7 @@ pub fn row_of(way: Way) -> Row
 // ---- Check 5, claim.
 
 // The claim, its way decoded.
-#[derive(Drop)]
+#[derive(Clone, Copy)]
 pub struct Claim {
     pub guess: u8,
     pub step: u8,
@@ -530,7 +530,7 @@ pub struct Claim {
 }
 
 // What reading answers: the claim, or the refusal's number and place.
-#[derive(Drop)]
+#[derive(Clone, Copy)]
 pub enum Reading {
     Good(Claim),
     Refused { number: u8, place: u16 },

@@ -6,7 +6,7 @@ pub mod kinds;
 pub mod rules;
 
 // What a test asks of two terms: that they are equal, or that the first is a key and the second its inverse.
-#[derive(Drop)]
+#[derive(Clone, Copy)]
 pub enum Relation {
     Equal,
     Inverse,

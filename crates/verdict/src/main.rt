@@ -8,7 +8,7 @@ ghost use Rattle.verdict.specs.Code.{Within};
 use libc::{STDERR_FILENO, STDIN_FILENO, STDOUT_FILENO};
 
 // How many bytes were read, or that a read failed.
-#[derive(Drop)]
+#[derive(Clone, Copy)]
 pub enum Input {
     Read(usize),
     Failed,

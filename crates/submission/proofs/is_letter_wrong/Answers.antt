@@ -1,0 +1,32 @@
+-- `is_letter_wrong` meets its contract: the letters before i are right.
+use Prim.Native.Nat.{◌-◌}
+use Rattle.base.proofs.Scan.{scan}
+use Rattle.submission.proofs.ContentsTests.{letter_wrong, letter_right}
+use Rattle.submission.proofs.is_letter_wrong.Goals as goal
+
+pub loop-i-init : goal.loop-i-init
+loop-i-init c = search scan
+
+pub overflow_mul-i : goal.overflow_mul-i
+overflow_mul-i c = search scan
+
+pub byte-requires : goal.byte-requires
+byte-requires c = search scan
+
+pub bounds-letters-i : goal.bounds-letters-i
+bounds-letters-i c = search scan
+
+pub returns-then-byte-letters : goal.returns-then-byte-letters
+returns-then-byte-letters c = search (letter_wrong, scan)
+
+pub overflow_add-i : goal.overflow_add-i
+overflow_add-i c = search scan
+
+pub loop-i-smaller : goal.loop-i-smaller
+loop-i-smaller c = search scan
+
+pub loop-i-preserved : goal.loop-i-preserved
+loop-i-preserved c = search (letter_right, scan)
+
+pub returns : goal.returns
+returns c = search scan
