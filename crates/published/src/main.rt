@@ -2,36 +2,55 @@
 // and prints the verdict on each. Promises nothing of its own; what it must print is stored beside it.
 #![tactic(auto)]
 
-use libc::{STDIN_FILENO, STDOUT_FILENO};
+ghost use Rattle.std.specs.Prelude.{◌≤◌, length, IfOk};
 
-fn print_verdict(s: &[u8]) {
+use std::io;
+use std::io::Read;
+
+fn print_verdict(rt: &impl Print, s: &[u8]) -> io::Result<()> {
     let mut text = [0u8; 4096];
     let written = checker::write_verdict(s, &mut text);
-    io::write_all(STDOUT_FILENO, &text[..written]);
+    rt.write_all(&text[..written])
 }
 
 // The verdicts on the submissions of a bundle, up to one that is cut short.
-fn print_all(bundle: &[u8]) {
+fn print_all(rt: &impl Print, bundle: &[u8]) -> io::Result<()> {
     let mut at: usize = 0;
     while at < bundle.len() {
         let start = at + 2;
         if bundle.len() < start {
-            return;
+            return Ok(());
         }
         let high = base::wide(base::byte(bundle, at));
         let length = high * 256 + base::wide(base::byte(bundle, at + 1));
         let rest = bundle.len() - start;
         if rest < length {
-            return;
+            return Ok(());
         }
         let end = start + length;
-        print_verdict(&bundle[start..end]);
+        print_verdict(rt, &bundle[start..end])?;
         at = end;
     }
+    Ok(())
 }
 
-fn main() {
-    let mut input = io::large_buffer();
-    let length = io::read_full(STDIN_FILENO, &mut input);
-    print_all(&input[..length]);
+// Reads until the input ends or the buffer is full, and gives the count of bytes read.
+fn read_bundle(from: &mut impl Read, buffer: &mut [u8]) -> io::Result<usize>
+    ensures { IfOk result (λ n. n ≤ length buffer.new) }
+{
+    let mut done: usize = 0;
+    while done < buffer.len() {
+        let more = from.read(&mut buffer[done..])?;
+        if more == 0 {
+            break;
+        }
+        done += more;
+    }
+    Ok(done)
+}
+
+fn main(rt: HostRuntime) -> io::Result<()> {
+    let mut input = [0u8; 65536];
+    let length = read_bundle(&mut rt.stdin(), &mut input)?;
+    print_all(&rt, &input[..length])
 }
