@@ -1,4 +1,5 @@
-// The calls for C: an answer is one number. A refusal is number * 65536 + place; what is done is its value.
+// The calls for C, which the static library `checker_c` exports under the same names: an answer is one number. A refusal is
+// number * 65536 + place; what is done is its value.
 ghost use Rattle.std.specs.Prelude.{◌≡◌};
 ghost use Rattle.base.specs.Answer.{answer_of};
 ghost use Rattle.submission.specs.Body.{bodies};
@@ -19,37 +20,32 @@ fn encode(answer: Answer) -> u32
     }
 }
 
-#[unsafe(no_mangle)]
-pub extern "C" fn checker_check(sub: &[u8], page: &mut [u8]) -> u32
+pub fn checker_check(sub: &[u8], page: &mut [u8]) -> u32
     ensures { Encoded sub.now page.old result page.new }
 {
     let verdict = conditions::check(sub, page);
     encode(conditions::answer_of(verdict))
 }
 
-#[unsafe(no_mangle)]
-pub extern "C" fn checker_deducible(sub: &[u8], term: u8) -> u32
+pub fn checker_deducible(sub: &[u8], term: u8) -> u32
     ensures { result ≡ encoded (deducible_answer sub.now term) }
 {
     encode(deduction::deducible(sub, term))
 }
 
-#[unsafe(no_mangle)]
-pub extern "C" fn checker_deduction(sub: &[u8], term: u8, page: &mut [u8]) -> u32
+pub fn checker_deduction(sub: &[u8], term: u8, page: &mut [u8]) -> u32
     ensures { DeductionWritten (λ a. result ≡ encoded a) sub.now term page.old page.new }
 {
     encode(witness::deduction(sub, term, page))
 }
 
-#[unsafe(no_mangle)]
-pub extern "C" fn checker_run(sub: &[u8], name: u16, program: &[u8]) -> u32
+pub fn checker_run(sub: &[u8], name: u16, program: &[u8]) -> u32
     ensures { result ≡ encoded (run_answer sub.now name program.now) }
 {
     encode(machine::run(sub, name, program))
 }
 
-#[unsafe(no_mangle)]
-pub extern "C" fn checker_write(
+pub fn checker_write(
     terms: &[u8],
     knowledge: &[u8],
     derivation: &[u8],
@@ -61,15 +57,13 @@ pub extern "C" fn checker_write(
     encode(form::write(terms, knowledge, derivation, claim, page))
 }
 
-#[unsafe(no_mangle)]
-pub extern "C" fn checker_inverses(sub: &[u8], page: &mut [u8]) -> u32
+pub fn checker_inverses(sub: &[u8], page: &mut [u8]) -> u32
     ensures { EncodedInverses sub.now page.old result page.new }
 {
     encode(inverse::inverses(sub, page))
 }
 
-#[unsafe(no_mangle)]
-pub extern "C" fn checker_read_back(sub: &[u8], program: &[u8], page: &mut [u8]) -> u32
+pub fn checker_read_back(sub: &[u8], program: &[u8], page: &mut [u8]) -> u32
     ensures { EncodedBodies sub.now program.now page.old result page.new }
 {
     encode(readback::read_back(sub, program, page))

@@ -2,7 +2,7 @@
 // Promises: every call is total, for all bytes, and its answer and the bytes that it writes are what the definitions of specs/ give.
 #![tactic(auto)]
 
-mod calls;
+pub mod calls;
 
 ghost use Rattle.std.specs.Prelude.{replicate};
 ghost use Rattle.conditions.specs.Calls.{Checked};

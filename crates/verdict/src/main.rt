@@ -1,11 +1,12 @@
 // Reads a submission from standard input and prints its verdict. Where a read or the write fails it says so on standard error and ends with
 // status 1; otherwise nothing stands there, and the status is 0.
-// Promises nothing of its own: the text is the library's `write_verdict`; reading and writing are std's.
+// Promises: `answer` prints the text of the verdict on all of the input, for every reader and writer whose bytes are known. Those of
+// standard input and output are not: what is read and written there is as std has it.
 #![tactic(auto)]
 
-ghost use Rattle.verdict.specs.Code.{Within};
+ghost use Rattle.verdict.specs.Code.{Within, Begins, Answered};
 
-use std::io::Read;
+use std::io::{Read, Write};
 use std::process::ExitCode;
 
 // How many bytes were read, or that a read failed.
@@ -15,9 +16,18 @@ pub enum Input {
     Failed,
 }
 
+// Whether the verdict was printed, and where not, what failed.
+#[derive(Clone, Copy)]
+pub enum Ending {
+    Printed,
+    NotRead,
+    NotWritten,
+}
+
 // Reads until the input ends or the buffer is full.
 fn read_input<R: Read>(from: &mut R, buffer: &mut [u8]) -> Input
-    ensures { Within result buffer.new }
+    ensures within { Within result buffer.new }
+    ensures begins { Begins (R.remaining from.old) result buffer.new }
 {
     let mut done: usize = 0;
     while done < buffer.len() {
@@ -32,19 +42,29 @@ fn read_input<R: Read>(from: &mut R, buffer: &mut [u8]) -> Input
     Input::Read(done)
 }
 
-fn main(rt: HostRuntime) -> ExitCode {
+// Reads a submission and prints its verdict.
+fn answer<R: Read, W: Write>(from: &mut R, to: &mut W) -> Ending
+    ensures { Answered (R.remaining from.old) result (W.contents to.old) (W.contents to.new) }
+{
     // An input of 4,096 bytes or more gets the text of its first 4,096: none over 3,076 bytes passes check 1.
     let mut input = [0u8; 4096];
-    let read = read_input(&mut rt.stdin(), &mut input);
-    let Input::Read(length) = read else {
-        let _ = eprintln!(rt; "standard input could not be read");
-        return ExitCode::FAILURE;
+    let Input::Read(length) = read_input(from, &mut input) else {
+        return Ending::NotRead;
     };
     let mut text = [0u8; 4096];
     let written = checker::write_verdict(&input[..length], &mut text);
-    if rt.write_all(&text[..written]).is_err() {
-        let _ = eprintln!(rt; "the verdict could not be written");
-        return ExitCode::FAILURE;
+    match to.write_all(&text[..written]) {
+        Ok(()) => Ending::Printed,
+        Err(_) => Ending::NotWritten,
     }
-    ExitCode::SUCCESS
+}
+
+fn main(rt: HostRuntime) -> ExitCode {
+    let message = match answer(&mut rt.stdin(), &mut rt.stdout()) {
+        Ending::Printed => return ExitCode::SUCCESS,
+        Ending::NotRead => "standard input could not be read",
+        Ending::NotWritten => "the verdict could not be written",
+    };
+    let _ = eprintln!(rt; "{message}");
+    ExitCode::FAILURE
 }
