@@ -1,8 +1,8 @@
-/* The checker's seven calls, in libchecker.a (rt staticlib checker). bindings/ has an example in C, and a safe wrapper for Rust.
+/* The checker's seven calls, in libchecker.a (tests/library). bindings/ has an example in C, and a safe wrapper for Rust.
 
    Answers. Every call takes any bytes and ends. An answer is one number. A refusal is number * 65536 + place, with the numbers and
    places of docs/VERDICTS.md; every other answer is below 65536. That each call answers what the definitions under crates/ give, and
-   leaves those bytes on the page, is proved: the contracts are in crates/checker/src/calls.rt. Stack, threads and null, below, are
+   leaves those bytes on the page, is proved: the contracts are in crates/checker_c/src/lib.rt. Stack, threads and null, below, are
    properties of the compiled library: tried and measured, not proved.
 
    Buffers. A buffer is a pointer to bytes and their number, with no demand on alignment. Only the page is written, and no other buffer

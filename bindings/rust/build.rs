@@ -11,7 +11,7 @@ fn main() {
     let library = folder.join("libchecker.a");
     assert!(
         library.is_file(),
-        "{} is not there: run `rt staticlib checker`, or name its folder by its whole path in CHECKER_LIBRARY",
+        "{} is not there: run `tests/library`, or name its folder by its whole path in CHECKER_LIBRARY",
         library.display()
     );
     println!("cargo:rerun-if-changed=build.rs");
