@@ -241,7 +241,13 @@ fn link(before: &mut [u8; 256], latest: &mut [u8; 256], i: u8, clause: Clause)
 
 // The records that wait for each term in this role: `latest` has the last of them, and `before` for each of them the one before it; 255
 // stands for none.
-pub fn chain(s: &[u8], inverses: &[u8; 256], role: Role, before: &mut [u8; 256], latest: &mut [u8; 256])
+pub fn chain(
+    s: &[u8],
+    inverses: &[u8; 256],
+    role: Role,
+    before: &mut [u8; 256],
+    latest: &mut [u8; 256],
+)
     requires table_read { TableRead s.now }
     requires inverses { Inverses s.now inverses.now }
     requires before_value { before.old ≡ replicate 256 255 }
