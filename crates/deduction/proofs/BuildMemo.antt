@@ -1,12 +1,11 @@
 -- The parts of a record, and the build test that keeps its answers: the returns of `parts_of`, `build` and `is_missing`.
 use mathlib.Core.Path.{◌≡◌, refl, sym, ap, ◌∙◌}
 use mathlib.Core.Logic.{◌⊎◌, inl, inr, ⊎_elim}
-use mathlib.Core.Bool.{Bool, true, false, ◌||◌, ◌&&◌, not, cond, false≢true, true≢false}
+use mathlib.Core.Bool.{Bool, true, false, ◌||◌, ◌&&◌, cond, false≢true, true≢false}
 use mathlib.Core.List.{List}
 use mathlib.Core.Option.{some}
 use Prim.Native.Nat.{ℕ, ◌<◌}
 use native.Mathlib.Omega.{arith}
-use lib.Dec.{eqb}
 use lib.ListN.{length, get_or, set, replicate, length-set, length-replicate}
 use lib.Seq.{get_or-set_other}
 use borrow.Author.Tests.{eq-eqb, ne_eqb}
@@ -19,11 +18,11 @@ use Rattle.submission.specs.Record.{terms, kind_at, x_at, y_at, name_at, record_
 use Rattle.deduction.specs.declared.Parts.{Parts}
 use Rattle.deduction.specs.declared.Parts.TheVariants.{Nothing, Both}
 use Rattle.deduction.specs.Computed.{at, parts_built, built}
-use Rattle.deduction.specs.Code.{reached_of, parts_of, code, Memo, Decided, Unbuilt}
+use Rattle.deduction.specs.Code.{marks_of, parts_of, code, Memo, Decided, Unbuilt}
 use Rattle.deduction.proofs.Theory.BuildTestLaws.{built_eq}
 use Rattle.submission.proofs.Theory.ListedTerms.{facts}
 use Rattle.base.proofs.Stores.{set_here, each_set, zeros}
-use Rattle.deduction.proofs.MarkArrays.{at_reached}
+use Rattle.deduction.proofs.MarkArrays.{at_marks}
 use Rattle.term.specs.Computed.{is_atomic}
 
 pub shape_record : (s : List ℕ) (t : ℕ) (z : Shape) → shape_of (kind_at s t) ≡ some z → record_at s t ≡ record_of (some z) (name_at s t) (x_at s t) (y_at s t)
@@ -82,14 +81,14 @@ decided_before {s} {known} {l} {i} {t} o e d =
 
 -- t gets its mark now, after others may have got theirs
 decided_now : {s known l l' : List ℕ} {i t v : ℕ} → i ≡ t → t < 256 → get_or l i 0 ≡ 0 →
-    ((n : ℕ) → (get_or l n 0 ≡ 0 → ⊥) → get_or l' n 0 ≡ get_or l n 0) → Memo s known l' → v ≡ code (built s (reached_of known) t) → Decided s known t l (set l' i v)
+    ((n : ℕ) → (get_or l n 0 ≡ 0 → ⊥) → get_or l' n 0 ≡ get_or l n 0) → Memo s known l' → v ≡ code (built s (marks_of known) t) → Decided s known t l (set l' i v)
 decided_now {s} {known} {l} {l'} {i} {t} {v} e b z p o f =
     let q : i < length l' = omega (arith, o.long) in
-    let g : v ≡ code (built s (reached_of known) i) = f ∙ ap (λ k. code (built s (reached_of known) k)) (sym e) in
+    let g : v ≡ code (built s (marks_of known) i) = f ∙ ap (λ k. code (built s (marks_of known) k)) (sym e) in
     record {
       memo = record {
         long = length-set l' i v ∙ o.long;
-        says = each_set (λ n w. (w ≡ 0) ⊎ (w ≡ code (built s (reached_of known) n))) l' i v q (inr g) (λ n d. o.says n);
+        says = each_set (λ n w. (w ≡ 0) ⊎ (w ≡ code (built s (marks_of known) n))) l' i v q (inr g) (λ n d. o.says n);
       };
       here = rw (← e) (set_here l' i v q ∙ g);
       kept = λ n d. get_or-set_other l' i n v 0 (λ x. d (rw x z)) ∙ p n d;
@@ -116,44 +115,44 @@ asks l m a b = (l, (a, (omega arith, b)))
 
 -- ---- the returns of the build test
 module _ {s : List ℕ} (known : List ℕ) {t : ℕ} (w : TableRead s) (l : t < terms s) where
-  eq : built s (reached_of known) t ≡ (at (reached_of known) t || parts_built (built s (reached_of known)) (record_at s t))
-  eq = built_eq s (reached_of known) (facts w).table.earlier t l
+  eq : built s (marks_of known) t ≡ (at (marks_of known) t || parts_built (built s (marks_of known)) (record_at s t))
+  eq = built_eq s (marks_of known) (facts w).table.earlier t l
 
-  module _ {i : ℕ} (e : i ≡ t) (d : get_or known i 0 ≡ 0) {p : Parts} (o : p ≡ parts_of (record_at s t)) where
-    not_marked : at (reached_of known) t ≡ false
-    not_marked = at_reached known t ∙ ap (λ v. not (eqb v 0)) (ap (λ k. get_or known k 0) (sym e) ∙ d)
+  module _ {i : ℕ} (e : i ≡ t) (d : get_or known i 0 ≡ 1 → ⊥) {p : Parts} (o : p ≡ parts_of (record_at s t)) where
+    not_marked : at (marks_of known) t ≡ false
+    not_marked = at_marks known t ∙ ne_eqb _ 1 (λ x. d (ap (λ k. get_or known k 0) e ∙ x))
 
-    atom_built : p ≡ Nothing → built s (reached_of known) t ≡ false
-    atom_built f = eq ∙ rw not_marked (no_parts (record_at s t) (sym o ∙ f) (built s (reached_of known)))
+    atom_built : p ≡ Nothing → built s (marks_of known) t ≡ false
+    atom_built f = eq ∙ rw not_marked (no_parts (record_at s t) (sym o ∙ f) (built s (marks_of known)))
 
-    compound_built : {x y : ℕ} → p ≡ Both x y → built s (reached_of known) t ≡ (built s (reached_of known) x && built s (reached_of known) y)
-    compound_built f = eq ∙ rw not_marked ((both_parts (record_at s t) (sym o ∙ f)).1 (built s (reached_of known)))
+    compound_built : {x y : ℕ} → p ≡ Both x y → built s (marks_of known) t ≡ (built s (marks_of known) x && built s (marks_of known) y)
+    compound_built f = eq ∙ rw not_marked ((both_parts (record_at s t) (sym o ∙ f)).1 (built s (marks_of known)))
 
 module _ {s known l₀ : List ℕ} {t i : ℕ} (w : TableRead s) (l : t < terms s) (m : Memo s known l₀) (e : i ≡ t) (free : get_or l₀ i 0 ≡ 0) where
-  pub now_known : (get_or known i 0 ≡ 0 → ⊥) → Decided s known t l₀ (set l₀ i 1)
+  pub now_known : get_or known i 0 ≡ 1 → Decided s known t l₀ (set l₀ i 1)
   now_known f =
-      let b : built s (reached_of known) t ≡ true = eq known w l ∙ rw (at_reached known t, ne_eqb _ 0 (rw e at f)) in
+      let b : built s (marks_of known) t ≡ true = eq known w l ∙ rw (at_marks known t, eq-eqb _ 1 (rw e at f)) in
       decided_now e (small w l) free (λ n d. refl) m (sym (ap code b))
 
-  module _ (d : get_or known i 0 ≡ 0) {p : Parts} (o : p ≡ parts_of (record_at s t)) where
+  module _ (d : get_or known i 0 ≡ 1 → ⊥) {p : Parts} (o : p ≡ parts_of (record_at s t)) where
     pub now_atom : p ≡ Nothing → Decided s known t l₀ (set l₀ i 2)
     now_atom f = decided_now e (small w l) free (λ n d. refl) m (sym (ap code (atom_built known w l e d o f)))
 
     module _ {x y j : ℕ} {l₁ : List ℕ} (g : p ≡ Both x y) (f : Decided s known x l₀ l₁) (h : j ≡ x) where
-      halves : built s (reached_of known) t ≡ (built s (reached_of known) x && built s (reached_of known) y)
+      halves : built s (marks_of known) t ≡ (built s (marks_of known) x && built s (marks_of known) y)
       halves = compound_built known w l e d o g
 
-      first_at : get_or l₁ j 0 ≡ code (built s (reached_of known) x)
+      first_at : get_or l₁ j 0 ≡ code (built s (marks_of known) x)
       first_at = ap (λ k. get_or l₁ k 0) h ∙ f.here
 
       pub now_left : get_or l₁ j 0 ≡ 2 → Decided s known t l₀ (set l₁ i (get_or l₁ j 0))
       now_left u =
-          let b : built s (reached_of known) t ≡ false = halves ∙ rw (code_no (built s (reached_of known) x) (sym first_at ∙ u)) in
+          let b : built s (marks_of known) t ≡ false = halves ∙ rw (code_no (built s (marks_of known) x) (sym first_at ∙ u)) in
           decided_now e (small w l) free f.kept f.memo (u ∙ sym (ap code b))
 
       pub now_both : {l₂ : List ℕ} {k : ℕ} → (get_or l₁ j 0 ≡ 2 → ⊥) → Decided s known y l₁ l₂ → k ≡ y → Decided s known t l₀ (set l₂ i (get_or l₂ k 0))
       now_both {l₂} {k} u v q =
-          let b : built s (reached_of known) t ≡ built s (reached_of known) y = halves ∙ rw (code_yes (built s (reached_of known) x) (λ c. u (first_at ∙ c))) in
+          let b : built s (marks_of known) t ≡ built s (marks_of known) y = halves ∙ rw (code_yes (built s (marks_of known) x) (λ c. u (first_at ∙ c))) in
           decided_now e (small w l) free (λ n d. v.kept n (λ c. d (sym (f.kept n d) ∙ c)) ∙ f.kept n d) v.memo
           (ap (λ k. get_or l₂ k 0) q ∙ v.here ∙ ap code (sym b))
 
@@ -161,6 +160,6 @@ module _ {s known l₀ : List ℕ} {t i : ℕ} (w : TableRead s) (l : t < terms 
 pub not_missing : {s known : List ℕ} {k : ℕ} → Unbuilt s known k false
 not_missing = record { no = λ b. absurd (false≢true b) }
 
-pub missing : {s known : List ℕ} {k j : ℕ} {p : Parts} → TableRead s → k < terms s → j ≡ k → get_or known j 0 ≡ 0 →
+pub missing : {s known : List ℕ} {k j : ℕ} {p : Parts} → TableRead s → k < terms s → j ≡ k → (get_or known j 0 ≡ 1 → ⊥) →
     p ≡ parts_of (record_at s k) → p ≡ Nothing → Unbuilt s known k true
 missing {s} {known} w l e d o f = record { no = λ b. atom_built known w l e d o f }

@@ -18,7 +18,7 @@ use Rattle.base.specs.declared.Answer.{Answer}
 use Rattle.deduction.specs.Computed.{built, entry_marks, is_deducible, deducible_answer}
 use Rattle.submission.specs.Computed.{checks1to4}
 use Rattle.submission.specs.Code.{TableRead}
-use Rattle.deduction.specs.Code.{marks_of, reached_of, SameMarks, code, Decided, Unbuilt, Exact}
+use Rattle.deduction.specs.Code.{marks_of, SameMarks, code, Decided, Unbuilt, Exact}
 use Rattle.deduction.proofs.Theory.Exactness.{same_start}
 use Rattle.submission.proofs.Theory.ListedTerms.{facts}
 
@@ -28,26 +28,26 @@ code_says true = refl
 code_says false = refl
 
 module _ {s known : List ℕ} where
-  said_built : {t k : ℕ} {l l' : List ℕ} → Decided s known t l l' → k ≡ t → eqb (get_or l' k 0) 1 ≡ built s (reached_of known) t
-  said_built {t} d e = rw (e, d.here, code_says (built s (reached_of known) t))
+  said_built : {t k : ℕ} {l l' : List ℕ} → Decided s known t l l' → k ≡ t → eqb (get_or l' k 0) 1 ≡ built s (marks_of known) t
+  said_built {t} d e = rw (e, d.here, code_says (built s (marks_of known) t))
 
   -- a term that is missing
-  pub missing_first : {p : ℕ} {b : Bool} (q : ℕ) → Unbuilt s known p b → b ≡ true → false ≡ (built s (reached_of known) p && built s (reached_of known) q)
+  pub missing_first : {p : ℕ} {b : Bool} (q : ℕ) → Unbuilt s known p b → b ≡ true → false ≡ (built s (marks_of known) p && built s (marks_of known) q)
   missing_first q u e = rw (u.no e)
 
-  pub missing_second : {q : ℕ} {b : Bool} (p : ℕ) → Unbuilt s known q b → b ≡ true → false ≡ (built s (reached_of known) p && built s (reached_of known) q)
+  pub missing_second : {q : ℕ} {b : Bool} (p : ℕ) → Unbuilt s known q b → b ≡ true → false ≡ (built s (marks_of known) p && built s (marks_of known) q)
   missing_second p u e = rw (u.no e, and-false)
 
   module _ {p k : ℕ} {l l' : List ℕ} (d : Decided s known p l l') (e : k ≡ p) where
-    pub first_not : (q : ℕ) → (get_or l' k 0 ≡ 1 → ⊥) → false ≡ (built s (reached_of known) p && built s (reached_of known) q)
-    first_not q f = let g : built s (reached_of known) p ≡ false = sym (said_built d e) ∙ ne_eqb _ 1 f in rw g
+    pub first_not : (q : ℕ) → (get_or l' k 0 ≡ 1 → ⊥) → false ≡ (built s (marks_of known) p && built s (marks_of known) q)
+    first_not q f = let g : built s (marks_of known) p ≡ false = sym (said_built d e) ∙ ne_eqb _ 1 f in rw g
 
     pub first_yes : {q j : ℕ} {m m' : List ℕ} → get_or l' k 0 ≡ 1 → Decided s known q m m' → j ≡ q →
-        eqb (get_or m' j 0) 1 ≡ (built s (reached_of known) p && built s (reached_of known) q)
-    first_yes f g h = let i : built s (reached_of known) p ≡ true = sym (said_built d e) ∙ eq-eqb _ 1 f in rw i (said_built g h)
+        eqb (get_or m' j 0) 1 ≡ (built s (marks_of known) p && built s (marks_of known) q)
+    first_yes f g h = let i : built s (marks_of known) p ≡ true = sym (said_built d e) ∙ eq-eqb _ 1 f in rw i (said_built g h)
 
 pub both_deducible : {s start known : List ℕ} {p q : ℕ} {r : Bool} → Exact s start known → p < terms s → q < terms s →
-    r ≡ (built s (reached_of known) p && built s (reached_of known) q) → r ≡ (is_deducible s (marks_of start) p && is_deducible s (marks_of start) q)
+    r ≡ (built s (marks_of known) p && built s (marks_of known) q) → r ≡ (is_deducible s (marks_of start) p && is_deducible s (marks_of start) q)
 both_deducible {p = p} {q = q} x b c e = e ∙ ap₂ ◌&&◌ (x.is p b) (x.is q c)
 
 -- ---- from the knowledge

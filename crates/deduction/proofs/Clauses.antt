@@ -1,6 +1,5 @@
 -- Clauses: the returns of `clause_of`, the chains of the records that wait for a term, and that what a clause gives is deducible.
 use mathlib.Core.Path.{◌≡◌, refl, sym, ap, ◌∙◌, subst}
-use mathlib.Core.Logic.{⊎_elim}
 use mathlib.Core.Bool.{Bool, true, false}
 use mathlib.Core.List.{List}
 use Prim.Native.Nat.{ℕ, ◌+◌, ◌<◌, ◌≤◌}
@@ -11,8 +10,7 @@ use borrow.Author.Tests.{eq-eqb}
 use Rattle.base.specs.Code.{Chaining}
 use Rattle.base.proofs.BoolLaws.{or_left, or_right, and_both}
 use Rattle.base.proofs.Chains.{chaining_none, chaining_apart, chaining_more}
-use Rattle.term.specs.Step.{Deducible}
-use Rattle.term.proofs.Reach.{Reach, known, reach_iff}
+use Rattle.term.proofs.Reach.{Reach, known}
 use Rattle.term.proofs.Deducibility.{built_reach}
 use Rattle.submission.specs.Code.{TableRead}
 use Rattle.submission.specs.Record.{terms, record_at, term}
@@ -26,9 +24,8 @@ use Rattle.deduction.specs.declared.Role.TheVariants.{Key, First, Second}
 use Rattle.deduction.specs.declared.Clause.{Clause}
 use Rattle.deduction.specs.declared.Clause.TheVariants.{Absent, From}
 use Rattle.deduction.specs.Computed.{at, parts_built, built, gives, Marked}
-use Rattle.deduction.specs.Code.{reached_of, Reached, parts_of, opening_of, key_clause, parts_clause, clause_of, awaited, linked, Links, ComesFrom, from_parts, from_pair, from_key}
+use Rattle.deduction.specs.Code.{parts_of, opening_of, key_clause, parts_clause, clause_of, awaited, linked, Links}
 use Rattle.deduction.proofs.Theory.{BuildTestLaws.built_eq, BuildTestLaws.says_built, Exactness.gives_reached}
-use Rattle.deduction.proofs.MarkArrays.{says_reached}
 use Rattle.deduction.proofs.BuildMemo.{both_parts}
 use Rattle.deduction.proofs.RecordOpening.{opening_gives, with_listed}
 
@@ -87,7 +84,7 @@ second_from Nothing t e = absurd (let z : ◌≡◌ {A = ℕ} 0 1 = cc in omega 
 second_from (Both a b) t e = (cc, cc)
 
 module _ {s : List ℕ} {t : ℕ} (v : TableRead s) (l : t < terms s) where
-  pub parts_listed : {x y : ℕ} → parts_of (record_at s t) ≡ Both x y → (x < terms s) × (y < terms s)
+  parts_listed : {x y : ℕ} → parts_of (record_at s t) ≡ Both x y → (x < terms s) × (y < terms s)
   parts_listed p = let (a, b) = (both_parts (record_at s t) p).0 t ((facts v).table.earlier t l) in (omega arith, omega arith)
 
   -- its numbers are those of terms
@@ -110,13 +107,13 @@ module _ {s : List ℕ} {t : ℕ} (v : TableRead s) (l : t < terms s) (m : List 
   marked_built : (n : ℕ) → n < terms s → at m n ≡ true → built s m n ≡ true
   marked_built n b e = built_eq s m (facts v).table.earlier n b ∙ or_left _ _ e
 
-  opening_reached : {body key : ℕ} → opening_of s t ≡ With body key → at m t ≡ true → at m key ≡ true → (body < terms s) × Reach (Marked s m) (term s body)
+  pub opening_reached : {body key : ℕ} → opening_of s t ≡ With body key → at m t ≡ true → at m key ≡ true → (body < terms s) × Reach (Marked s m) (term s body)
   opening_reached {body} {key} o e f =
       let (a, b) = with_listed v l o in
       let g : gives s m (record_at s t) body ≡ true = opening_gives v l m body ∙ rw o (and_both _ _ (eq-eqb body body refl) (marked_built key b f)) in
       gives_reached (facts v) m (λ n c p. known (n, c, (p, refl))) t body l (known (t, l, (e, refl))) g
 
-  freely_reached : {x y : ℕ} → opening_of s t ≡ Freely x y → at m t ≡ true → Reach (Marked s m) (term s x) × Reach (Marked s m) (term s y)
+  pub freely_reached : {x y : ℕ} → opening_of s t ≡ Freely x y → at m t ≡ true → Reach (Marked s m) (term s x) × Reach (Marked s m) (term s y)
   freely_reached {x} {y} o e =
       let from : (n : ℕ) → gives s m (record_at s t) n ≡ true → Reach (Marked s m) (term s n) = λ n g.
       let w : (n < terms s) × Reach (Marked s m) (term s n) = gives_reached (facts v) m (λ k c p. known (k, c, (p, refl))) t n l (known (t, l, (e, refl))) g in w.1 in (
@@ -131,34 +128,12 @@ module _ {s : List ℕ} {t : ℕ} (v : TableRead s) (l : t < terms s) (m : List 
       let c : built s m t ≡ true = built_eq s m (facts v).table.earlier t l ∙ or_right (at m t) (parts_built (built s m) (record_at s t)) (h (built s m) ∙ and_both (built s m x) (built s m y) (marked_built x (omega arith) e) (marked_built y (omega arith) f)) in
       (l, built_reach (λ u k. known k) ((says_built (facts v) m t l).0 c))
 
--- ---- what a term comes from
-module _ {s : List ℕ} {u n : ℕ} (v : TableRead s) (l : u < terms s) where
-  -- what is had may be told otherwise
-  pub comes_by : {Had Had' : ℕ → Type 0} → ((k : ℕ) → k < terms s → Had k → Had' k) → ComesFrom s Had u n → ComesFrom s Had' u n
-  comes_by f (from_parts x y e p a b) =
-      let (bx, by) = parts_listed v (rw e at l) p in
-      from_parts x y e p (f x bx a) (f y by b)
-  comes_by f (from_pair x y a o i) = from_pair x y (f u l a) o i
-  comes_by f (from_key k a o b) = from_key k (f u l a) o (f k (with_listed v l o).1 b)
-
-  -- it is deducible
-  pub comes_deducible : (m : List ℕ) → ComesFrom s (Reached m) u n → Deducible (Marked s (reached_of m)) (term s n)
-  comes_deducible m (from_parts x y e p a b) =
-      (reach_iff _ _).0 (parts_reached v (rw e at l) (reached_of m) p ((says_reached m x).1 a) ((says_reached m y).1 b)).1
-  comes_deducible m (from_pair x y a o i) =
-      let (f, g) = freely_reached v l (reached_of m) o ((says_reached m u).1 a) in
-      (reach_iff _ _).0 (⊎_elim (λ e. rw e f) (λ e. rw e g) i)
-  comes_deducible m (from_key k a o b) = (reach_iff _ _).0 (opening_reached v l (reached_of m) o ((says_reached m u).1 a) ((says_reached m k).1 b)).1
-
--- what a clause gives comes from its record
-pub clause_comes : {s : List ℕ} {t : ℕ} {Had : ℕ → Type 0} (role : Role) {u x y : ℕ} → clause_of s role t ≡ From u x y → Had u → Had x → ComesFrom s Had t y
-clause_comes {s} {t} {Had} Key {u} e a b = let (o, f) = key_from (opening_of s t) t e in from_key u (subst Had f b) o a
-clause_comes {s} {t} {Had} First {u} {x} {y} e a b =
-    let (p, f) = first_from_lem (parts_of (record_at s t)) t e in
-    from_parts u x (sym f) (ap (λ k. parts_of (record_at s k)) f ∙ p) a b
-clause_comes {s} {t} {Had} Second {u} {x} {y} e a b =
-    let (p, f) = second_from (parts_of (record_at s t)) t e in
-    from_parts x u (sym f) (ap (λ k. parts_of (record_at s k)) f ∙ p) b a
+  pub clause_reached : (role : Role) {u x y : ℕ} → clause_of s role t ≡ From u x y → at m u ≡ true → at m x ≡ true → (y < terms s) × Reach (Marked s m) (term s y)
+  clause_reached Key e a b =
+      let (o, f) = key_from (opening_of s t) t e in
+      opening_reached o (rw f at b) a
+  clause_reached First e a b = let (p, f) = first_from_lem (parts_of (record_at s t)) t e in rw f (parts_reached p a b)
+  clause_reached Second e a b = let (p, f) = second_from (parts_of (record_at s t)) t e in rw f (parts_reached p b a)
 
 -- ---- the chains of the records that wait for a term
 pub link_none : {clause : Clause} (b l : List ℕ) (i : ℕ) → clause ≡ Absent → Links b l i clause b l

@@ -1,7 +1,6 @@
-// Deducibility over all terms, from the knowledge or from any marked terms, and how each listed term is reached.
+// Deducibility over all terms, from the knowledge or from any marked terms.
 // Promises: every function is total, for all bytes, and `deducible` answers what the definition `deducible_answer` gives, which is yes
-// exactly when some finite list of Dolev-Yao steps reaches the term from the knowledge. `reach_all` marks exactly the terms that are deducible, each
-// with the record that it comes from, in an order in which it comes after what it was reached from.
+// exactly when some finite list of Dolev-Yao steps reaches the term from the knowledge.
 // Cost, for T terms: the inverses are found first, in one pass (`inverse::find`). A term is marked at most once, and treated once when it is: its
 // record is opened, and the records that wait for it are looked at, for it as the key that opens them and, where a compound term is a key,
 // as a part to be built from. A record waits for one key and two parts, so it is looked at four times at most. The build test keeps its
@@ -16,21 +15,16 @@ ghost use Rattle.base.specs.Computed.{any};
 ghost use Rattle.base.specs.Code.{Chaining};
 ghost use Rattle.submission.specs.Code.{TableRead};
 ghost use Rattle.inverse.specs.Code.{Inverses};
-ghost use Rattle.deduction.specs.Code.{marks_of, reached_of, Reached, SameMarks, parts_of, Memo, Decided, Unbuilt, opens_by, opening_of, key_clause, parts_clause, clause_of, has_hash_key, linked, Links, Room, Pushed, PushedWith, Queue, Ready, FiredOne, Fired, TakenApart, Grown, OpenTo, Composed, ComposedTo, Entered, Exact, Worked, BuiltOne, BuiltAll, AllReached};
+ghost use Rattle.deduction.specs.Code.{marks_of, SameMarks, parts_of, Memo, Decided, Unbuilt, opens_by, opening_of, key_clause, parts_clause, clause_of, has_hash_key, linked, Links, Room, Pushed, PushedWith, Queue, Ready, FiredOne, Fired, TakenApart, Grown, OpenTo, Composed, ComposedTo, SoundMarks, Exact};
 
 use base::{Answer, Stage};
 use term::kinds;
 
-// A number for each term number. Of marks to start from, 1 marks the term; those of numbers that are not below T count for nothing.
+// A number for each term number. Of marks, 1 marks the term; those of numbers that are not below T count for nothing.
 #[derive(Drop)]
 pub struct Marks {
     pub state: [u8; 256],
 }
-
-// The mark of a term in the working says how it was reached. 0 is that of a term that was not, and START_MARK that of one that is from the start.
-// Any other is one more than the number of the record that the term comes from: its own, where it was built of its parts, or the one that it was
-// taken from.
-pub const START_MARK: u8 = 255;
 
 // 1 at each term of the knowledge.
 pub fn knowledge_marks(s: &[u8]) -> Marks
@@ -79,7 +73,7 @@ fn build(s: &[u8], known: &[u8; 256], memo: &mut [u8; 256], t: u8)
     if memo[i] != 0 {
         return;
     }
-    if known[i] != 0 {
+    if known[i] == 1 {
         memo[i] = 1;
         return;
     }
@@ -105,7 +99,7 @@ fn is_missing(s: &[u8], known: &[u8; 256], k: u8) -> bool
     requires k_bound { k < terms s.now }
     ensures { Unbuilt s.now known.now k result }
 {
-    if known[base::wide(k)] != 0 {
+    if known[base::wide(k)] == 1 {
         return false;
     }
     let parts = parts_of(s, k);
@@ -133,7 +127,7 @@ fn with_key(body: u8, key: u8) -> Opening
     Opening::With { body, key }
 }
 
-pub fn opening_of(s: &[u8], inverses: &[u8; 256], t: u8) -> Opening
+fn opening_of(s: &[u8], inverses: &[u8; 256], t: u8) -> Opening
     requires table_read { TableRead s.now }
     requires t_bound { t < terms s.now }
     requires inverses { Inverses s.now inverses.now }
@@ -263,40 +257,32 @@ fn chain(s: &[u8], inverses: &[u8; 256], role: Role, before: &mut [u8; 256], lat
     }
 }
 
-// Gives term t this mark and puts it at the end of the order, where it is not marked yet.
-fn push(marks: &mut [u8; 256], order: &mut [u8; 256], end: usize, t: u8, mark: u8) -> usize
+// Marks term t and puts it at the end of the order, where it is not marked yet.
+fn push(marks: &mut [u8; 256], order: &mut [u8; 256], end: usize, t: u8) -> usize
     requires { Room marks.old order.old end }
-    ensures { Pushed marks.old order.old end t mark marks.new order.new result }
+    ensures { Pushed marks.old order.old end t marks.new order.new result }
 {
     let i = base::wide(t);
-    if marks[i] != 0 {
+    if marks[i] == 1 {
         return end;
     }
-    marks[i] = mark;
+    marks[i] = 1;
     order[end] = t;
     end + 1
 }
 
 // The same, where the term `with` is marked.
-fn push_with(
-    marks: &mut [u8; 256],
-    order: &mut [u8; 256],
-    end: usize,
-    t: u8,
-    mark: u8,
-    with: u8,
-) -> usize
+fn push_with(marks: &mut [u8; 256], order: &mut [u8; 256], end: usize, t: u8, with: u8) -> usize
     requires { Room marks.old order.old end }
-    ensures { PushedWith marks.old order.old end t mark with marks.new order.new result }
+    ensures { PushedWith marks.old order.old end t with marks.new order.new result }
 {
-    if marks[base::wide(with)] == 0 {
+    if marks[base::wide(with)] != 1 {
         return end;
     }
-    push(marks, order, end, t, mark)
+    push(marks, order, end, t)
 }
 
-// What the clause of record t gives, in the role in which t waited for a term that is marked by now. It comes from record t: as its body, or as its
-// own term.
+// What the clause of record t gives, in the role in which t waited for a term that is marked by now.
 fn fire_one(
     s: &[u8],
     inverses: &[u8; 256],
@@ -322,8 +308,7 @@ fn fire_one(
     else {
         return end;
     };
-    let mark = t + 1;
-    push_with(marks, order, end, result, mark, other)
+    push_with(marks, order, end, result, other)
 }
 
 // What the clauses give of all records that wait for term u in this role.
@@ -343,7 +328,7 @@ fn fire(
     requires chaining { Chaining (linked s.now role) (terms s.now) before.now latest.now }
     requires queue { Queue s.now marks.old order.old end }
     requires u_bound { u < terms s.now }
-    requires reached { Reached marks.old u }
+    requires u_value { get_or marks.old u 0 ≡ 1 }
     ensures { Fired s.now role u marks.old order.old end marks.new order.new result }
 {
     let mut reached = end;
@@ -368,17 +353,16 @@ fn take_apart(
     requires u_bound { u < terms s.now }
     requires inverses { Inverses s.now inverses.now }
     requires queue { Queue s.now marks.old order.old end }
-    requires reached { Reached marks.old u }
+    requires u_value { get_or marks.old u 0 ≡ 1 }
     ensures { TakenApart s.now u marks.old order.old end marks.new order.new result }
 {
-    let mark = u + 1;
     let o = opening_of(s, inverses, u);
     match o {
         Opening::Freely { x, y } => {
-            let first = push(marks, order, end, x, mark);
-            push(marks, order, first, y, mark)
+            let first = push(marks, order, end, x);
+            push(marks, order, first, y)
         }
-        Opening::With { body, key } => push_with(marks, order, end, body, mark, key),
+        Opening::With { body, key } => push_with(marks, order, end, body, key),
         Opening::Shut => end,
     }
 }
@@ -431,7 +415,7 @@ fn enter(s: &[u8], start: &[u8; 256], marks: &mut [u8; 256], order: &mut [u8; 25
     requires marks_value { marks.old ≡ replicate 256 0 }
     requires order_len { length order.old ≡ 256 }
     ensures queue { Queue s.now marks.new order.new result }
-    ensures entered { Entered s.now start.now marks.new }
+    ensures sound_marks { SoundMarks s.now start.now marks.new }
 {
     let n = submission::terms(s);
     let mut end = 0;
@@ -442,7 +426,7 @@ fn enter(s: &[u8], start: &[u8; 256], marks: &mut [u8; 256], order: &mut [u8; 25
         if start[base::wide(t)] != 1 {
             continue;
         }
-        end = push(marks, order, end, t, START_MARK);
+        end = push(marks, order, end, t);
     }
     end
 }
@@ -498,7 +482,7 @@ fn compose(
     requires queue { Queue s.now marks.old order.old end }
     requires open_to { OpenTo s.now marks.old order.old end }
     requires u_bound { u < terms s.now }
-    requires reached { Reached marks.old u }
+    requires u_value { get_or marks.old u 0 ≡ 1 }
     ensures { Composed s.now u marks.old order.old end marks.new order.new result }
 {
     let first = fire(
@@ -574,109 +558,45 @@ fn saturate(
     start: &[u8; 256],
     marks: &mut [u8; 256],
     order: &mut [u8; 256],
-) -> usize
+)
     requires table_read { TableRead s.now }
     requires inverses { Inverses s.now inverses.now }
     requires chaining { Chaining (linked s.now Role.Key) (terms s.now) before.now latest.now }
     requires marks_value { marks.old ≡ replicate 256 0 }
     requires order_len { length order.old ≡ 256 }
-    ensures { Worked s.now start.now marks.new order.new result }
+    ensures { Exact s.now start.now marks.new }
 {
     let entered = enter(s, start, marks, order);
     let opened = open_all(s, inverses, before, latest, marks, order, 0, entered);
     if !has_compound_key(s) {
-        return opened;
+        return;
     }
-    compose_all(s, inverses, before, latest, marks, order, opened)
+    compose_all(s, inverses, before, latest, marks, order, opened);
 }
 
-// The working: the terms that are deducible from those that `start` marks are those that can be built over the marks, and the first of the order
-// are the marked ones, as many as the answer says.
-fn work(
-    s: &[u8],
-    start: &[u8; 256],
-    inverses: &mut [u8; 256],
-    marks: &mut [u8; 256],
-    order: &mut [u8; 256],
-) -> usize
-    requires table_read { TableRead s.now }
-    requires inverses_len { length inverses.old ≡ 256 }
-    requires marks_value { marks.old ≡ replicate 256 0 }
-    requires order_len { length order.old ≡ 256 }
-    ensures worked { Worked s.now start.now marks.new order.new result }
-    ensures inverses { Inverses s.now inverses.new }
-{
-    inverse::find(s, inverses);
-    let mut before = [255u8; 256];
-    let mut latest = [255u8; 256];
-    chain(s, inverses, Role::Key, &mut before, &mut latest);
-    saturate(s, inverses, &before, &latest, start, marks, order)
-}
-
-// The marks of the working.
+// The terms that are deducible from those that `start` marks are those that can be built over these marks. The marks of numbers that are no
+// terms count for nothing.
 fn saturated(s: &[u8], start: Marks) -> Marks
     requires { TableRead s.now }
     ensures { Exact s.now start.state result.state }
 {
     let mut inverses = [255u8; 256];
+    inverse::find(s, &mut inverses);
+    let mut before = [255u8; 256];
+    let mut latest = [255u8; 256];
+    chain(s, &inverses, Role::Key, &mut before, &mut latest);
     let mut state = [0u8; 256];
     let mut order = [0u8; 256];
-    work(s, &start.state, &mut inverses, &mut state, &mut order);
+    saturate(
+        s,
+        &inverses,
+        &before,
+        &latest,
+        &start.state,
+        &mut state,
+        &mut order,
+    );
     Marks { state }
-}
-
-// Term t is built of its parts, where they are marked.
-fn build_one(s: &[u8], marks: &mut [u8; 256], order: &mut [u8; 256], end: usize, t: u8) -> usize
-    requires table_read { TableRead s.now }
-    requires t_bound { t < terms s.now }
-    requires queue { Queue s.now marks.old order.old end }
-    ensures { BuiltOne s.now t marks.old order.old end marks.new order.new result }
-{
-    let parts = parts_of(s, t);
-    let Parts::Both { x, y } = parts else {
-        return end;
-    };
-    if marks[base::wide(x)] == 0 {
-        return end;
-    }
-    let mark = t + 1;
-    push_with(marks, order, end, t, mark, y)
-}
-
-// Every term that can be built is marked. Parts are earlier records, so one pass is enough.
-fn build_all(s: &[u8], marks: &mut [u8; 256], order: &mut [u8; 256], end: usize) -> usize
-    requires table_read { TableRead s.now }
-    requires queue { Queue s.now marks.old order.old end }
-    ensures { BuiltAll s.now marks.old order.old end marks.new order.new result }
-{
-    let n = submission::terms(s);
-    let mut reached = end;
-    let mut i: u8 = 0;
-    while i < n {
-        reached = build_one(s, marks, order, reached, i);
-        i += 1;
-    }
-    reached
-}
-
-// Marks every listed term that is deducible from those that `start` marks, with how it was reached, and puts them in an order in which each
-// comes after those that it was reached from. Answers how many there are.
-pub fn reach_all(
-    s: &[u8],
-    start: &[u8; 256],
-    inverses: &mut [u8; 256],
-    marks: &mut [u8; 256],
-    order: &mut [u8; 256],
-) -> usize
-    requires table_read { TableRead s.now }
-    requires inverses_len { length inverses.old ≡ 256 }
-    requires marks_value { marks.old ≡ replicate 256 0 }
-    requires order_len { length order.old ≡ 256 }
-    ensures all_reached { AllReached s.now start.now marks.new order.new result }
-    ensures inverses { Inverses s.now inverses.new }
-{
-    let end = work(s, start, inverses, marks, order);
-    build_all(s, marks, order, end)
 }
 
 // Whether the terms p and q can both be built over the marks `known`. Each is decided once: an atom that is missing at once, with no memo.
@@ -684,7 +604,7 @@ fn are_built(s: &[u8], known: &[u8; 256], p: u8, q: u8) -> bool
     requires table_read { TableRead s.now }
     requires p_bound { p < terms s.now }
     requires q_bound { q < terms s.now }
-    ensures { result ≡ (built s.now (reached_of known.now) p && built s.now (reached_of known.now) q) }
+    ensures { result ≡ (built s.now (marks_of known.now) p && built s.now (marks_of known.now) q) }
 {
     if is_missing(s, known, p) {
         return false;

@@ -10,7 +10,7 @@ use borrow.Author.Tests.{ne_eqb}
 use Rattle.base.proofs.First.{Passed as PassedTo, passed_more, passed_hit, passed_all}
 use Rattle.term.specs.Number.{has_one}
 use Rattle.base.specs.Computed.{passes, fails, fails_if, and_then}
-use Rattle.submission.specs.Record.{steps, second_for}
+use Rattle.submission.specs.Record.{steps, second_at}
 use Rattle.base.specs.Code.{check_of}
 use Rattle.base.specs.declared.Stage.{Stage}
 use Rattle.base.specs.declared.Stage.TheVariants.{Passed, Refused}
@@ -21,24 +21,14 @@ use Rattle.derivation.specs.{Computed.bad_step, Computed.unfounded, Computed.che
 use Rattle.derivation.specs.Code.{IsStep, Lowest, Registered, check_step, StepsChecked}
 use Rattle.derivation.proofs.RegistersHeld.{held_any}
 
--- ---- the second premise
-module _ (r p q : ℕ) {b : Bool} (e : b ≡ has_one r) where
-  pub second_once : b ≡ true → p ≡ second_for r p q
-  unfolding second_for
-  second_once f = rw (← e, f)
-
-  pub second_other : b ≡ false → q ≡ second_for r p q
-  unfolding second_for
-  second_other f = rw (← e, f)
-
 -- ---- check 7 of a step
 module _ {s : List ℕ} {i : ℕ} {f : List ℕ} {st : Step} (h : Lowest s (written s i) f) (x : IsStep s i st) (l : st.p < 256) {v : ℕ} (e : v ≡ get_or f st.p 0) where
   pub first_unknown : v ≡ 255 → true ≡ unfounded s i
   unfolding unfounded
   first_unknown d = rw (← x.first, held_any h st.p l, ← e, d)
 
-  pub second_decides : {u w : ℕ} → (v ≡ 255 → ⊥) → u ≡ second_for st.rule st.p st.q → u < 256 → w ≡ get_or f u 0 → eqb w 255 ≡ unfounded s i
-  unfolding unfounded second_for
+  pub second_decides : {u w : ℕ} → (v ≡ 255 → ⊥) → u ≡ cond (has_one st.rule) st.p st.q → u < 256 → w ≡ get_or f u 0 → eqb w 255 ≡ unfounded s i
+  unfolding unfounded second_at
   second_decides {u} d k m g =
       rw (← x.first, ← x.second, ← x.rule, ← k, held_any h st.p l, ← e, ne_eqb _ _ d, held_any h u m, ← g, not-not)
 

@@ -2,12 +2,11 @@
 // Promises: every function is total, and its answer is what the definitions of specs/ give.
 #![tactic(auto)]
 
-ghost use Rattle.std.specs.Prelude.{◌≡◌, ◌&&◌, ◌<◌, eqb, get_or};
+ghost use Rattle.std.specs.Prelude.{◌≡◌, ◌&&◌, ◌<◌, cond, eqb, get_or};
 ghost use Rattle.term.specs.Term.{asymmetric, pair, encryption, compound};
-ghost use Rattle.term.specs.Number.{shape_of, rules as rule_count, head_of};
+ghost use Rattle.term.specs.Number.{shape_of, rules as rule_count, head_of, has_one};
 ghost use Rattle.term.specs.Computed.{kind_of};
 ghost use Rattle.term.specs.Code.{builder_of};
-ghost use Rattle.submission.specs.Record.{second_for};
 ghost use Rattle.submission.specs.Code.{Limited, way_is, IsClaim};
 ghost use Rattle.submission.specs.Check.{row};
 ghost use Rattle.submission.specs.Computed.{are_inverse};
@@ -43,7 +42,7 @@ pub fn step_at(s: &[u8], i: u8) -> Step
 
 // The second premise; one premise counts as both.
 pub fn second_of(step: Step) -> u8
-    ensures { result ≡ second_for step.rule step.p step.q }
+    ensures { result ≡ cond (has_one step.rule) step.p step.q }
 {
     let rule = step.rule;
     if rules::has_one(rule) {

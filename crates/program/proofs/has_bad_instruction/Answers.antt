@@ -1,5 +1,4 @@
 -- `has_bad_instruction` meets its contract: the instructions before i are good.
-use Prim.Native.Nat.{◌-◌}
 use Rattle.base.proofs.Scan.{scan}
 use Rattle.program.proofs.Theory.Check13.{bad_here, some_bad, none_bad}
 use Rattle.program.proofs.has_bad_instruction.Goals as goal

@@ -1,5 +1,5 @@
 -- `relation_of` mirrors the table of tests.
-use borrow.Author.Tests.{ne_eqb}
+use Rattle.std.proofs.Common.{arith}
 use Rattle.program.specs.Program.{relation_of}
 use Rattle.program.proofs.relation_of.Goals as goal
 
@@ -13,4 +13,4 @@ returns-in-105 c = rw c.in-105.is
 
 pub returns-in_default : goal.returns-in_default
 unfolding relation_of
-returns-in_default c = simp (ne_eqb _ _ c.in_default-own.rest.1, ne_eqb _ _ c.in_default-own.rest.0.1)
+returns-in_default c = grind arith

@@ -1,5 +1,4 @@
 -- `write_instructions` meets its contract: the loop has written the first i instructions, and the rest of the part is as it was.
-use Prim.Native.Nat.{◌-◌}
 use Rattle.program.proofs.Theory.Writing.{wrote_none, wrote_more, wrote_all}
 use Rattle.program.proofs.write_instructions.Goals as goal
 
