@@ -21,6 +21,7 @@ no_15 s P p (inr (inr (inl (e, _)))) = omega arith
 no_15 s P p (inr (inr (inr (inl (e, _))))) = omega arith
 no_15 s P p (inr (inr (inr (inr (inl (e, _)))))) = omega arith
 no_15 s P p (inr (inr (inr (inr (inr (inl (e, _))))))) = omega arith
+no_15 s P p (inr (inr (inr (inr (inr (inr x)))))) = elim x [ ]
 
 module _ (s P : List ℕ) (b : Bytes s) (name : ℕ) where
   abbrev row15 : List (ℕ → ℕ → Type 0)

@@ -13,7 +13,7 @@ use Rattle.base.specs.Words.{first}
 use Rattle.base.proofs.First.{first_none, first_some}
 use Rattle.base.proofs.Order.{lt_or_ge}
 use Rattle.base.proofs.Says.{Says, says_eqb, says_and, says_or, says_true, denies, same_test}
-use Rattle.term.specs.Term.{Kind, plain, public, private, other_kind, atom, inverse, leaf, message}
+use Rattle.term.specs.Term.{Kind, plain, public, private, other_kind, atom, leaf, message}
 use Rattle.term.proofs.Table.{leaf_of}
 use Rattle.submission.specs.Record.{terms, guess, name_at, record_at, term, guessed}
 use Rattle.submission.specs.Code.{SubmissionRead, KnownPart}
