@@ -23,7 +23,6 @@ use Rattle.term.specs.Code.{relation_is}
 use Rattle.program.specs.Program.{row_of, bytes_of, program_length}
 use Rattle.derivation.specs.declared.Step.{Step}
 use Rattle.derivation.specs.{Step.written, Computed.is_known}
-use Rattle.derivation.proofs.StepReturns.{second_other}
 use Rattle.submission.specs.Record.{second_at}
 use Rattle.derivation.specs.Computed.{unfounded}
 use Rattle.derivation.specs.Code.{IsStep, Lowest}
@@ -58,7 +57,7 @@ module _ {s : List ℕ} {g : List ℕ} (h : Acceptable s) (w : Lowest s (written
 
     second_register : {r : ℕ} → b ≡ false → r ≡ get_or g a.q 0 → r ≡ lowest s (q_at s i)
     second_register n m =
-        let z : a.q ≡ second_at s i = second_is x (second_other a.rule a.p a.q q n) in
+        let z : a.q ≡ second_at s i = second_is x (rw (← q, n)) in
         let k : is_known s i a.q ≡ true = rw z (second_known s i step_founded) in
         m ∙ known_register i a.q (omega arith) (rw x.second (h.bytes _)) k ∙ ap (lowest s) x.second
 

@@ -1,6 +1,6 @@
 -- Condition 4, one test at a time: premise sets of two steps, and what is known, read off the registers.
 use mathlib.Core.Path.{◌≡◌, refl, sym, ap, ◌∙◌}
-use mathlib.Core.Bool.{Bool, true, false, ◌&&◌, not}
+use mathlib.Core.Bool.{Bool, true, false, ◌&&◌, not, cond}
 use mathlib.Core.List.{List}
 use mathlib.Core.Option.{Option, none, some}
 use mathlib.Core.Logic.{⊎_elim}
@@ -12,6 +12,7 @@ use borrow.Author.Tests.{eq-eqb, ne_eqb, lt-ltb, le-ltb}
 use Rattle.base.specs.Words.{first}
 use Rattle.base.proofs.First.{first_none, first_some, passed_any, passed_not_any}
 use Rattle.base.proofs.Order.{lt_or_ge}
+use Rattle.term.specs.Number.{has_one}
 use Rattle.submission.specs.declared.Claim.{Claim}
 use Rattle.submission.specs.Code.{Limited, way_is, IsClaim}
 use Rattle.submission.specs.{Record.entries, Record.steps, Record.p_at, Record.way_at, Record.companion, Computed.are_inverse}
@@ -20,7 +21,7 @@ use Rattle.submission.specs.declared.Way.TheVariants.{AnotherStep, AtStart, Inve
 use Rattle.submission.specs.Check.{way_of}
 use Rattle.derivation.specs.declared.Step.{Step}
 use Rattle.derivation.specs.{Step.written, Computed.is_known}
-use Rattle.submission.specs.Record.{second_for, second_at}
+use Rattle.submission.specs.Record.{second_at}
 use Rattle.derivation.specs.Code.{IsStep, Lowest}
 use Rattle.derivation.proofs.RegistersHeld.{held_any}
 use Rattle.conditions.specs.Computed.{is_premise, same_premises, has_second_way}
@@ -33,11 +34,11 @@ module _ {s : List ℕ} {i : ℕ} {a : Step} (h : IsStep s i a) where
   pub first_premise_lem : (t : ℕ) → t ≡ a.p → true ≡ is_premise s i t
   first_premise_lem t e = rw (eq-eqb t (p_at s i) (e ∙ h.first))
 
-  pub second_premise_lem : (t r : ℕ) → (t ≡ a.p → ⊥) → r ≡ second_for a.rule a.p a.q → eqb t r ≡ is_premise s i t
-  second_premise_lem t r n e = rw (← (second_is h e), ← h.first, ne_eqb t a.p n)
+  pub second_premise_lem : (t r : ℕ) → (t ≡ a.p → ⊥) → r ≡ cond (has_one a.rule) a.p a.q → eqb t r ≡ is_premise s i t
+  second_premise_lem t r n e = rw (← h.first, ne_eqb t a.p n) (ap (eqb t) (second_is h e))
 
   -- and whether they are premises of step j
-  pub both_premises : (j : ℕ) {b r : Bool} (u : ℕ) → b ≡ is_premise s j a.p → b ≡ true → u ≡ second_for a.rule a.p a.q → r ≡ is_premise s j u →
+  pub both_premises : (j : ℕ) {b r : Bool} (u : ℕ) → b ≡ is_premise s j a.p → b ≡ true → u ≡ cond (has_one a.rule) a.p a.q → r ≡ is_premise s j u →
       r ≡ (is_premise s j (p_at s i) && is_premise s j (second_at s i))
   both_premises j u f t e g =
       let q : is_premise s j (p_at s i) ≡ true = ap (is_premise s j) (sym h.first) ∙ sym f ∙ t in

@@ -13,7 +13,7 @@ use lib.ListN.{get_or}
 use mir.Syntax.{w8}
 use mir.Val.{Fits}
 use borrow.Author.Tests.{lt-ltb, le-ltb, eq-eqb, ne_eqb}
-use Rattle.base.specs.{Words.byte, Words.first, Words.fours, Answer.Puts, Code.check_of, Computed.fails, Computed.passes, Computed.fails_at, Computed.fails_if}
+use Rattle.base.specs.{Words.byte, Words.first, Answer.Puts, Code.check_of, Computed.fails, Computed.passes, Computed.fails_at, Computed.fails_if}
 use Rattle.base.specs.declared.Stage.{Stage}
 use Rattle.base.specs.declared.Stage.TheVariants as stage
 use Rattle.base.proofs.{Order.lt_or_ge, Says.denies, Says.none_fails, AnswerLaws.at_passes, PutLaws.puts_none, PutLaws.puts_then}
@@ -200,11 +200,11 @@ module _ {s P l : List ℕ} (z : Numbered s P l) where
 
 -- ---- all steps
 pub steps_none : {a : List ℕ} {i : ℕ} (s P : List ℕ) → Puts a i (steps_read s P 0) a i
-unfolding fours
+unfolding steps_read
 steps_none s P = puts_none
 
 pub steps_more : {a b c : List ℕ} {i j k : ℕ} (s P : List ℕ) (n : ℕ) → Puts a i (steps_read s P n) b j → Puts b j (step_read s P n) c k → Puts a i (steps_read s P (n + 1)) c k
-unfolding fours
+unfolding steps_read
 steps_more s P n p q = rw add-one (puts_then p q)
 
 pub steps_all : {a b : List ℕ} {i j : ℕ} (s P : List ℕ) (m n : ℕ) → n ≡ byte P 0 → m ≤ n → n ≤ m → Puts a i (steps_read s P m) b j → Puts a i (steps_read s P (byte P 0)) b j

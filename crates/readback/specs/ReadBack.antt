@@ -1,5 +1,5 @@
 -- From a program back to its derivation and its claim: document 02, A6.
-use Rattle.base.specs.{Words.◌≡◌, Words.◌⊎◌, Words.Bool, Words.true, Words.false, Words.ite, Words.cond, Words.List, Words.[], Words.◌∷◌, Words.◌++◌, Words.Option, Words.none, Words.some, Words.ℕ, Words.zero, Words.suc, Words.◌+◌, Words.◌-◌, Words.◌*◌, Words.◌<◌, Words.eqb, Words.ltb, Words.first, Words.fours, Words.byte, Answer.numbered, Answer.row11}
+use Rattle.base.specs.{Words.◌≡◌, Words.◌⊎◌, Words.Bool, Words.true, Words.false, Words.ite, Words.cond, Words.List, Words.[], Words.◌∷◌, Words.◌++◌, Words.Option, Words.none, Words.some, Words.ℕ, Words.zero, Words.suc, Words.◌+◌, Words.◌-◌, Words.◌*◌, Words.◌<◌, Words.eqb, Words.ltb, Words.first, Words.byte, Answer.numbered, Answer.row11}
 use Rattle.term.specs.{Term.Relation, Term.equal, Term.inverses, Number.has_one, Computed.term?}
 use Rattle.submission.specs.Record.{terms, entries, guess, term}
 use Rattle.submission.specs.Check.{Way, another_step, at_start, inverse_key, guess_derived, inverse_derived, Range, step_number, term_number, zero_only, step_or_knowledge, knowledge_step, row}
@@ -30,8 +30,9 @@ step_read s P i =
     ∷ []
 
 -- the first n of them
-abbrev pub steps_read : List ℕ → List ℕ → ℕ → List ℕ
-steps_read s P n = fours (step_read s P) n
+unfoldable pub steps_read : List ℕ → List ℕ → ℕ → List ℕ
+steps_read s P zero = []
+steps_read s P (suc i) = steps_read s P i ++ step_read s P i
 
 abbrev pub derivation_read : List ℕ → List ℕ → List ℕ
 derivation_read s P = steps_read s P (byte P 0)

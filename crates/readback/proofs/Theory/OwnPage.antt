@@ -1,19 +1,20 @@
 -- The page of an accepted submission, read back: each register holds its own term, so the records are the submission's own.
 use mathlib.Core.Path.{◌≡◌, refl, sym, ap, ap₂, ◌∙◌, subst}
-use mathlib.Core.Logic.{inl, inr, ⊎_elim}
+use mathlib.Core.Logic.{◌⊎◌, inl, inr, ⊎_elim}
 use mathlib.Core.Bool.{Bool, true, false, cond}
 use mathlib.Core.List.{List, [], ◌∷◌, ◌++◌}
 use mathlib.Core.Option.{Option, none, some}
-use Prim.Native.Nat.{ℕ, zero, suc, ◌+◌, ◌*◌, ◌≤◌, ◌<◌}
+use Prim.Native.Nat.{ℕ, zero, suc, ◌+◌, ◌-◌, ◌*◌, ◌≤◌, ◌<◌}
 use native.Mathlib.Omega.{arith}
 use lib.ListN.{length, take, drop, length-drop}
 use lib.Seq.{take-add, get_or-drop}
 use borrow.Author.Tests.{lt-ltb, le-ltb, eq-eqb, ne_eqb}
 use lib.Dec.{eqb, ltb}
-use Rattle.base.specs.Words.{Bytes, byte, fours}
+use Rattle.base.specs.Words.{Bytes, byte}
 use Rattle.base.specs.Answer.{Clear}
+use Rattle.base.proofs.Order.{lt_or_ge}
 use Rattle.term.specs.Number.{has_one}
-use Rattle.submission.specs.Record.{start, start_of, terms, entries, steps, rule_at, p_at, q_at, second_for, conclusion_at, guess, verifying, way_at, companion, entry_at, name_at, term}
+use Rattle.submission.specs.Record.{count, start, start_of, terms, entries, steps, rule_at, p_at, q_at, second_at, conclusion_at, guess, verifying, way_at, companion, entry_at, name_at, term}
 use Rattle.submission.specs.Body.{body_at}
 use Rattle.submission.specs.Check.{Way, another_step, at_start, inverse_key, guess_derived, inverse_derived, way_of, Target, the_guess, its_inverse, claims_in, InRange, knowledge_step, given_register, row, rows1and2}
 use Rattle.submission.proofs.Theory.{ListedTerms.Claimed, ListedTerms.way_letter, ReadingRows.claimed_clear, ReadingRows.contents_fit, ReadingRows.first_two}
@@ -28,7 +29,7 @@ use Rattle.conditions.proofs.Theory.ProgramRun.{lowest_known, program_steps, ins
 use Rattle.conditions.proofs.Theory.Signal.{premises_known, start_known, inverse_known, entry_gives, guess_right, right_result, right_lowest}
 use Rattle.readback.specs.ReadBack.{step_of, number, step_read, steps_read, derivation_read, way_read, verifying_read, companion_read, claim_read, NoClaim}
 use Rattle.readback.specs.Computed.{off_table}
-use Rattle.readback.proofs.Theory.{ReadBackAnswer.number_is, ReadBackAnswer.listed_on, SameSubmissions.one_claim}
+use Rattle.readback.proofs.Theory.ReadBackAnswer.{number_is, listed_on}
 
 -- ---- records of four bytes
 -- the first four entries of a list
@@ -90,7 +91,7 @@ module _ (s : List ℕ) (bytes : Bytes s) (w : WellFormed s) (c₀ : FiveConditi
   number_lowest i t b l e = number_is claim.read P (lowest s t) t l (held_lowest i t b e)
 
   own_second : (i : ℕ) → i < steps s → cond (has_one (rule_at s i)) 0 (number s P (cond (has_one (rule_at s i)) 0 (lowest s (q_at s i)))) ≡ q_at s i
-  unfolding second_for
+  unfolding second_at
   own_second i l = go (has_one (rule_at s i)) (w.shaped i l).unused (premises_known s bytes w c₀ i l).1
     where
       go : (b : Bool) → (b ≡ true → q_at s i ≡ 0) → is_known s i (cond b (p_at s i) (q_at s i)) ≡ true → cond b 0 (number s P (cond b 0 (lowest s (q_at s i)))) ≡ q_at s i
@@ -104,9 +105,14 @@ module _ (s : List ℕ) (bytes : Bytes s) (w : WellFormed s) (c₀ : FiveConditi
       rw (instruction_read s i l, number_lowest i (p_at s i) (omega arith) (w.shaped i l).p_below p, own_second i l, number_is claim.read P (written s i) (conclusion_at s i) (w.shaped i l).conclusion_below (held_result i l))
 
   -- the bodies reach to the submission's end
+  one_claim : count s 3 ≡ 1
+  one_claim =
+      let f = counted.1.0 2 3 in
+      ⊎_elim (λ l. absurd (f (refl, (omega arith, inl l)))) (λ l. ⊎_elim (λ h. absurd (f (refl, (omega arith, inr h)))) (λ h. omega arith) (lt_or_ge 1 (count s 3))) (lt_or_ge (count s 3) 1)
+
   whole : length s ≡ start s 2 + 4 * steps s + 4
   unfolding start_of
-  whole = (contents_fit s bytes counted).1 ∙ rw (one_claim s counted)
+  whole = (contents_fit s bytes counted).1 ∙ rw one_claim
 
   claim_start : start s 3 ≡ start s 2 + 4 * steps s
   unfolding start_of
@@ -119,7 +125,7 @@ module _ (s : List ℕ) (bytes : Bytes s) (w : WellFormed s) (c₀ : FiveConditi
   step_byte i j = get_or-drop (start s 2) s (i + j) 0 ∙ ap (byte s) (omega arith)
 
   own_steps : (n : ℕ) → n ≤ steps s → steps_read s P n ≡ take (4 * n) steps_on
-  unfolding fours
+  unfolding steps_read
   own_steps zero l = refl
   own_steps (suc n) l =
       let e : 4 * suc n ≡ 4 * n + 4 = omega arith in
@@ -135,7 +141,7 @@ module _ (s : List ℕ) (bytes : Bytes s) (w : WellFormed s) (c₀ : FiveConditi
   claim_bytes =
       let l : 4 ≤ length (drop (start s 3) s) = rw (length-drop (start s 3) s) (omega (arith, whole, claim_start)) in
       let z : byte (drop (start s 3) s) 0 ≡ guess s = get_or-drop (start s 3) s 0 0 ∙ ap (byte s) (omega arith) in
-      ap (λ k. take (4 * k) (drop (start s 3) s)) (one_claim s counted) ∙ four_first (drop (start s 3) s) l ∙ rw (z, get_or-drop (start s 3) s 1 0, get_or-drop (start s 3) s 2 0, get_or-drop (start s 3) s 3 0)
+      ap (λ k. take (4 * k) (drop (start s 3) s)) one_claim ∙ four_first (drop (start s 3) s) l ∙ rw (z, get_or-drop (start s 3) s 1 0, get_or-drop (start s 3) s 2 0, get_or-drop (start s 3) s 3 0)
 
   -- what is read of a test
   abbrev Read : Instruction → List ℕ

@@ -8,7 +8,7 @@ use Prim.Native.Nat.{ℕ, zero, suc, ◌+◌, ◌*◌, ◌<◌}
 use native.Mathlib.Omega.{arith}
 use lib.ListN.{length, get_or, drop}
 use lib.Seq.{get_or-take, get_or-drop}
-use Rattle.base.specs.Words.{Bytes, byte, first, grow, listed, fours}
+use Rattle.base.specs.Words.{Bytes, byte, first, grow, listed}
 use Rattle.base.specs.Answer.{Clear}
 use Rattle.base.proofs.{Order.lt_or_ge, Grow.grow_alike, First.first_equal}
 use Rattle.term.specs.Term.{atom, atom_kind, void, decoded}
@@ -115,7 +115,7 @@ module _ {s s' : List ℕ} (a : Agree s s') where
     step_alike P i = rw (number_alike P (instruction_at P i).left, number_alike P (instruction_at P i).right, number_alike P (written s i), a.same_entries)
 
     pub steps_alike : (P : List ℕ) (n : ℕ) → steps_read s P n ≡ steps_read s' P n
-    unfolding fours
+    unfolding steps_read
     steps_alike P zero = refl
     steps_alike P (suc n) = ap₂ ◌++◌ (steps_alike P n) (step_alike P n)
 
