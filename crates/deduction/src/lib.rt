@@ -46,7 +46,7 @@ pub enum Parts {
     Both { x: u8, y: u8 },
 }
 
-fn parts_of(s: &[u8], t: u8) -> Parts
+pub fn parts_of(s: &[u8], t: u8) -> Parts
     requires table_read { TableRead s.now }
     requires t_bound { t < terms s.now }
     ensures { result ≡ parts_of (record_at s.now t) }
@@ -127,7 +127,7 @@ fn with_key(body: u8, key: u8) -> Opening
     Opening::With { body, key }
 }
 
-fn opening_of(s: &[u8], inverses: &[u8; 256], t: u8) -> Opening
+pub fn opening_of(s: &[u8], inverses: &[u8; 256], t: u8) -> Opening
     requires table_read { TableRead s.now }
     requires t_bound { t < terms s.now }
     requires inverses { Inverses s.now inverses.now }
@@ -207,7 +207,7 @@ fn clause_of_parts(s: &[u8], t: u8, first: bool) -> Clause
     }
 }
 
-fn clause_of(s: &[u8], inverses: &[u8; 256], role: Role, t: u8) -> Clause
+pub fn clause_of(s: &[u8], inverses: &[u8; 256], role: Role, t: u8) -> Clause
     requires table_read { TableRead s.now }
     requires t_bound { t < terms s.now }
     requires inverses { Inverses s.now inverses.now }
@@ -241,7 +241,13 @@ fn link(before: &mut [u8; 256], latest: &mut [u8; 256], i: u8, clause: Clause)
 
 // The records that wait for each term in this role: `latest` has the last of them, and `before` for each of them the one before it; 255
 // stands for none.
-fn chain(s: &[u8], inverses: &[u8; 256], role: Role, before: &mut [u8; 256], latest: &mut [u8; 256])
+pub fn chain(
+    s: &[u8],
+    inverses: &[u8; 256],
+    role: Role,
+    before: &mut [u8; 256],
+    latest: &mut [u8; 256],
+)
     requires table_read { TableRead s.now }
     requires inverses { Inverses s.now inverses.now }
     requires before_value { before.old ≡ replicate 256 255 }
@@ -444,7 +450,7 @@ fn is_under_hash(s: &[u8], t: u8) -> bool
 }
 
 // Whether a compound term is the key of an encryption: a hash is, and nothing else.
-fn has_compound_key(s: &[u8]) -> bool
+pub fn has_compound_key(s: &[u8]) -> bool
     ensures { result ≡ any (has_hash_key s.now) (terms s.now) }
 {
     let n = submission::terms(s);

@@ -14,7 +14,8 @@ use Rattle.base.proofs.{PutLaws.puts_front, Says.denies, Says.says_true}
 use Rattle.submission.specs.{Record.terms, Computed.checks1to4, Code.TableRead}
 use Rattle.submission.proofs.Theory.ListedTerms.{facts}
 use Rattle.deduction.specs.Computed.{entry_marks, is_deducible}
-use Rattle.deduction.specs.Code.{marks_of, SameMarks, Reached, AllReached}
+use Rattle.deduction.specs.Code.{marks_of, SameMarks}
+use Rattle.saturation.specs.Code.{Reached, AllReached}
 use Rattle.deduction.proofs.Theory.Exactness.{same_start}
 use Rattle.witness.specs.{Computed.deduction_answer, Calls.DeductionWritten, Code.Chosen, Code.FromKnowledge, Code.steps_bytes}
 use Rattle.witness.proofs.Theory.DeductionAnswer.{refused_reading, refused_term, refused_sheet, answered_value}

@@ -1,18 +1,20 @@
 -- Which steps lead to a term: the returns of `choose_one`, and the loop of `choose`.
 use mathlib.Core.Path.{◌≡◌, refl, sym, ap, ◌∙◌, subst}
 use mathlib.Core.Logic.{◌⊎◌, inl, inr, ⊎_elim}
+use mathlib.Core.Bool.{cond}
 use mathlib.Core.List.{List}
 use Prim.Native.Nat.{ℕ, ◌+◌, ◌-◌, ◌≤◌, ◌<◌}
 use native.Mathlib.Omega.{arith}
 use lib.ListN.{length, get_or, set, replicate, length-set, length-replicate}
 use lib.Seq.{get_or-set_same, get_or-set_other}
 use Rattle.base.proofs.{Order.lt_or_ge, Stores.set_here, Stores.each_set, Stores.zeros, Pigeonhole.pigeonhole}
+use Rattle.term.specs.Number.{has_one}
 use Rattle.submission.specs.Record.{terms, second_for}
 use Rattle.submission.specs.Code.{TableRead}
 use Rattle.submission.proofs.Theory.ListedTerms.{facts}
 use Rattle.derivation.specs.declared.Step.{Step}
-use Rattle.deduction.specs.Code.{start_mark, Reached, ComesFrom, How, Among, Queue}
-use Rattle.deduction.proofs.{Clauses.comes_by, MarkOrder.among_marked}
+use Rattle.saturation.specs.Code.{start_mark, Reached, ComesFrom, How, Among, Queue}
+use Rattle.saturation.proofs.{Clauses.comes_by, MarkOrder.among_marked}
 use Rattle.witness.specs.Code.{step_from, concluding_step, concluding_second, ConcludingPremise, HasStep, StartedOrHasStep, ChosenOne, Chosen}
 use Rattle.witness.proofs.StepsFrom.{Infers, infers}
 
@@ -39,8 +41,9 @@ module _ (s marks needed chosen : List ℕ) {i n : ℕ} (e : i ≡ n) where
   not_concluded f = inl (inr (rw e at f), refl, refl, refl)
 
   pub chosen_now : {from x y z : ℕ} {a : Step} → (get_or needed i 0 ≡ 0 → ⊥) → (get_or marks i 0 ≡ 255 → ⊥) → a ≡ concluding_step s marks n →
-      z ≡ second_for a.rule a.p a.q → x ≡ a.p → y ≡ z →
+      z ≡ cond (has_one a.rule) a.p a.q → x ≡ a.p → y ≡ z →
       ChosenOne s marks n needed chosen from (set (set needed x 1) y 1) (set chosen (from - 1) n) (from - 1)
+  unfolding second_for
   chosen_now f g h j k m = inr (rw e at f, rw e at g, rw (k, m, j, h), refl, refl)
 
 -- ---- the loop of `choose`: the terms from place k of the order on are treated

@@ -16,8 +16,10 @@ use Rattle.submission.proofs.Theory.ListedTerms.{facts}
 use Rattle.derivation.specs.Step.{RecordFits}
 use Rattle.derivation.specs.declared.Step.{Step}
 use Rattle.deduction.specs.Computed.{at, entry_marks}
-use Rattle.deduction.specs.Code.{marks_of, SameMarks, start_mark, AllReached}
-use Rattle.deduction.proofs.{MarkArrays.says_mark, Theory.Exactness.in_knowledge_iff}
+use Rattle.deduction.specs.Code.{marks_of, SameMarks}
+use Rattle.saturation.specs.Code.{start_mark, AllReached}
+use Rattle.deduction.proofs.{Theory.Exactness.in_knowledge_iff}
+use Rattle.saturation.proofs.{MarkArrays.says_mark}
 use Rattle.witness.specs.Deduction.{rule_in, p_in, q_in, conclusion_in, PremiseIn, KnownBefore, Deduction}
 use Rattle.witness.specs.Code.{concluding_step, concluding_second, ConcludingPremise, HasStep, ChosenSteps, Chosen, step_bytes, steps_bytes}
 use Rattle.witness.proofs.StepsFrom.{Infers, infers}

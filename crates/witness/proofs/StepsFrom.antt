@@ -24,7 +24,8 @@ use Rattle.derivation.proofs.Theory.StepMeaning.{Followed, record_fits}
 use Rattle.deduction.specs.declared.Parts.TheVariants.{Nothing, Both}
 use Rattle.deduction.specs.declared.Opening.{Opening}
 use Rattle.deduction.specs.declared.Opening.TheVariants.{Freely, With, Shut}
-use Rattle.deduction.specs.Code.{start_mark, parts_of, opening_in, opening_of, ComesFrom, from_parts, from_pair, from_key}
+use Rattle.deduction.specs.Code.{parts_of, opening_in, opening_of}
+use Rattle.saturation.specs.Code.{start_mark, ComesFrom, from_parts, from_pair, from_key}
 use Rattle.deduction.proofs.{BuildMemo.shape_record, OpeningKeys.the_inverse, RecordOpening.with_listed}
 use Rattle.witness.specs.Code.{built_step, part_rule, part_step, opening_rule, with_step, opened_step, step_from, concluding_step, HasStep}
 
@@ -132,28 +133,33 @@ module _ {s : List ℕ} (v : TableRead s) {Had : ℕ → Type 0} {u n : ℕ} (l 
           no_pair : (b : Bool) → cond b Shut (With (x_at s u) (inverse_of s (y_at s u))) ≡ Freely x y → ⊥
           no_pair true z = let d : ◌≡◌ {A = ℕ} 0 1 = cc in omega arith
           no_pair false z = let d : ◌≡◌ {A = ℕ} 0 1 = cc in omega arith
-      go (compound pair) e (lx, h) =
-          let z : Freely (x_at s u) (y_at s u) ≡ Freely x y = clash (ap (opening_in s) (shape_record s u (compound pair) e)) in
-          let ex : x_at s u ≡ x = cc in
-          let ey : y_at s u ≡ y = cc in
-          let low : n < u = ⊎_elim (λ c. omega arith) (λ c. omega arith) i in
-          let kind = shape_kind _ _ e in
-          let by : (b : Bool) → eqb x n ≡ b → Infers s Had n (record { rule = cond b (rule_of (part left)) (rule_of (part right)); p = u; q = 0; conclusion = n }) = λ b.
-          elim b [
-            | true ↦ λ f. record {
-              fits = record_fits (facts v) 1 u 0 n (omega arith) l (facts v).terms_least k (kind, (ex ∙ eqb-true x n f, refl));
-              first = a;
-              second = a;
-              concludes = refl;
-            }
-            | false ↦ λ f. record {
-              fits = record_fits (facts v) 2 u 0 n (omega arith) l (facts v).terms_least k (kind, (⊎_elim (λ c. absurd (eqb-false x n f (sym c))) (λ c. ey ∙ sym c) i, refl));
-              first = a;
-              second = a;
-              concludes = refl;
-            }
-          ] in
-          (low, by (eqb x n) refl)
+      go (compound pair) e (lx, h) = (low, by (eqb x n) refl)
+        where
+          parts : Freely (x_at s u) (y_at s u) ≡ Freely x y
+          parts = clash (ap (opening_in s) (shape_record s u (compound pair) e))
+
+          ex : x_at s u ≡ x
+          ex = let z = parts in cc
+
+          ey : y_at s u ≡ y
+          ey = let z = parts in cc
+
+          low : n < u
+          low = ⊎_elim (λ c. omega (arith, lx, ex, c)) (λ c. omega (arith, h, ey, c)) i
+
+          by : (b : Bool) → eqb x n ≡ b → Infers s Had n (record { rule = cond b (rule_of (part left)) (rule_of (part right)); p = u; q = 0; conclusion = n })
+          by true f = record {
+            fits = record_fits (facts v) 1 u 0 n (omega arith) l (facts v).terms_least k (shape_kind _ _ e, (ex ∙ eqb-true x n f, refl));
+            first = a;
+            second = a;
+            concludes = refl;
+          }
+          by false f = record {
+            fits = record_fits (facts v) 2 u 0 n (omega arith) l (facts v).terms_least k (shape_kind _ _ e, (⊎_elim (λ c. absurd (eqb-false x n f (sym c))) (λ c. ey ∙ sym c) i, refl));
+            first = a;
+            second = a;
+            concludes = refl;
+          }
 
   -- taken from an encryption
   infers_opened : {key : ℕ} → opening_of s u ≡ With n key → Had u → Had key → (n < u) × Infers s Had n (with_step s u key n)

@@ -6,7 +6,8 @@ use Rattle.submission.specs.Record.{terms, kind_at, x_at, y_at, second_for, term
 use Rattle.derivation.specs.declared.Step.{Step}
 use Rattle.deduction.specs.declared.Opening.{Opening}
 use Rattle.deduction.specs.declared.Opening.TheVariants.{Freely, With, Shut}
-use Rattle.deduction.specs.{Computed.entry_marks, Computed.is_deducible, Code.opening_of, Code.start_mark, Code.Reached, Code.ComesFrom, Code.Queue}
+use Rattle.deduction.specs.{Computed.entry_marks, Computed.is_deducible, Code.opening_of}
+use Rattle.saturation.specs.Code.{start_mark, Reached, ComesFrom, Queue}
 
 -- ---- the step that concludes a term
 -- the step that builds term n of its parts; the y of a record with one operand is 0, and so is q

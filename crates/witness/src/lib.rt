@@ -1,7 +1,7 @@
 // The deduction of a term, shown: a derivation in step records, written to a page.
 // Promises: `deduction` is total, for all bytes and a page of any length; its answer is what the definition `deduction_answer` gives, yes exactly when
 // some finite list of Dolev-Yao steps reaches the term from the knowledge; and the steps that it writes are such a list (`Deduction`).
-// Cost, for T terms: the working of `deduction::reach_all`, then two passes over the terms that are reached.
+// Cost, for T terms: the working of `saturation::reach_all`, then two passes over the terms that are reached.
 #![tactic(auto)]
 
 ghost use Rattle.std.specs.Prelude.{◌≡◌, suc, ◌-◌, ◌<◌, ◌≤◌, length, get_or};
@@ -9,13 +9,15 @@ ghost use Rattle.base.specs.Answer.{answer_of, Puts};
 ghost use Rattle.submission.specs.Record.{terms};
 ghost use Rattle.submission.specs.Code.{TableRead};
 ghost use Rattle.inverse.specs.Code.{Inverses};
-ghost use Rattle.deduction.specs.Code.{opening_of, start_mark, Reached, Queue};
+ghost use Rattle.deduction.specs.Code.{opening_of};
+ghost use Rattle.saturation.specs.Code.{start_mark, Reached, Queue};
 ghost use Rattle.witness.specs.Calls.{DeductionWritten};
 ghost use Rattle.witness.specs.Code.{built_step, opening_rule, part_rule, part_step, with_step, opened_step, step_from, concluding_step, step_bytes, steps_bytes, HasStep, StartedOrHasStep, ChosenOne, ChosenSteps, Chosen, FromKnowledge};
 
 use base::{Answer, Stage, wide};
-use deduction::{Opening, START_MARK};
+use deduction::Opening;
 use derivation::Step;
+use saturation::START_MARK;
 use term::{kinds, rules};
 
 // ---- The step that concludes a term.
@@ -271,7 +273,7 @@ fn show(s: &[u8], t: u8, page: &mut [u8]) -> Answer
     let mut inverses = [255u8; 256];
     let mut marks = [0u8; 256];
     let mut order = [0u8; 256];
-    let end = deduction::reach_all(s, &start.state, &mut inverses, &mut marks, &mut order);
+    let end = saturation::reach_all(s, &start.state, &mut inverses, &mut marks, &mut order);
     if marks[wide(t)] == 0 {
         return Answer::Done(0);
     }

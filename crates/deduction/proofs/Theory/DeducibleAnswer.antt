@@ -15,9 +15,9 @@ use Rattle.term.specs.Code.{Table}
 use Rattle.term.proofs.Table.{tables_agree}
 use Rattle.base.specs.Answer.{Answer, done, refused, numbered, Clear, Answers}
 use Rattle.base.specs.Words.{Bytes}
-use Rattle.base.specs.Computed.{passes, fails_if}
+use Rattle.base.specs.Computed.{passes, fails_if, and_then}
 use Rattle.submission.specs.Record.{terms, entries, entry_at, record_at, term, InKnowledge}
-use Rattle.base.proofs.RefusalLaws.{passes_iff, answers_iff, tells_if, tells_then, clear_split}
+use Rattle.base.proofs.RefusalLaws.{Tells, passes_iff, answers_iff, tells_if, tells_then, clear_split}
 use Rattle.submission.specs.Check.{rows1to4}
 use Rattle.submission.proofs.Theory.ReadingRows.{tells_1_to_4}
 use Rattle.submission.proofs.Theory.ListedTerms.{Listed, listed}
@@ -68,24 +68,29 @@ above_answer : (s : List ℕ) (n : ℕ) → checks1to4 s ≡ passes → terms s 
 unfolding deducible_answer
 above_answer s n e l = rw (e, le-ltb n (terms s) l)
 
--- 1 where the test says so, and else 0
-says_value : {P : Type 0} (b : Bool) → Says b P → (v : ℕ) → (cond b 1 0 ≡ v) ↔ (((v ≡ 1) × P) ⊎ ((v ≡ 0) × (P → ⊥)))
-says_value true s v = (λ e. inl (sym e, s.0 refl), ⊎_elim (λ (e, x). sym e) (λ (e, f). absurd (f (s.0 refl))))
-says_value false s v = (λ e. inr (sym e, λ x. false≢true (s.1 x)), ⊎_elim (λ (e, x). absurd (false≢true (s.1 x))) (λ (e, f). sym e))
+-- k, which stands for yes, where the test says so, and else 0
+pub says_value : {P : Type 0} (k : ℕ) (b : Bool) → Says b P → (v : ℕ) → (cond b k 0 ≡ v) ↔ (((v ≡ k) × P) ⊎ ((v ≡ 0) × (P → ⊥)))
+says_value k true s v = (λ e. inl (sym e, s.0 refl), ⊎_elim (λ (e, x). sym e) (λ (e, f). absurd (f (s.0 refl))))
+says_value k false s v = (λ e. inr (sym e, λ x. false≢true (s.1 x)), ⊎_elim (λ (e, x). absurd (false≢true (s.1 x))) (λ (e, f). sym e))
 
 -- ---- Demand 1, deducible, and demand 2
+-- checks 1 to 4, then 12
+pub tells_asked : (s : List ℕ) → Bytes s → (n : ℕ) → Tells (and_then (checks1to4 s) (fails_if (not (ltb n (terms s))) 12 0)) (deducible_rows s n)
+tells_asked s b n =
+    tells_then (checks1to4 s) (fails_if (not (ltb n (terms s))) 12 0) (tells_1_to_4 s b) (λ _. tells_if _ 12 0 (says_not_ltb n (terms s)))
+
+-- where they pass, the test says whether the term is deducible
+pub says_deducible : (s : List ℕ) → Bytes s → (n : ℕ) → Clear (deducible_rows s n) → Says (is_deducible s (entry_marks s) n) (Deducible (InKnowledge s) (term s n))
+says_deducible s b n c =
+    let (x, y) = clear_split (rows1to4 s) (numbered 12 (λ p. (p ≡ 0) × (terms s ≤ n)) ∷ []) c in
+    deducible_iff (listed s b ((passes_iff (tells_1_to_4 s b)).1 x)) n (⊎_elim (λ l. l) (λ l. absurd (y.0 12 0 (refl, (refl, l)))) (lt_or_ge n (terms s)))
+
 -- Deducible answers as rows 1 to 4 and row 12 say, and else 1 exactly where a finite list of steps reaches the term: "A term is deducible if a finite
 -- list of such steps reaches it from the knowledge alone, over all terms, not only those listed."
 pub deducible_exact : (s : List ℕ) → Bytes s → (n : ℕ) (a : Answer) → (deducible_answer s n ≡ a) ↔ Answers (deducible_rows s n) (DeducibleValue s n) a
 unfolding deducible_answer
 deducible_exact s b n =
-    answers_iff
-    (tells_then (checks1to4 s) (fails_if (not (ltb n (terms s))) 12 0) (tells_1_to_4 s b) (λ _. tells_if _ 12 0 (says_not_ltb n (terms s))))
-    (cond (is_deducible s (entry_marks s) n) 1 0) (DeducibleValue s n)
-    (λ c. let (x, y) = clear_split (rows1to4 s) (numbered 12 (λ p. (p ≡ 0) × (terms s ≤ n)) ∷ []) c in says_value _ (deducible_iff (listed s b ((passes_iff (tells_1_to_4 s b)).1 x)) n (below (y.0 12 0))))
-  where
-    below : (numbered 12 (λ p. (p ≡ 0) × (terms s ≤ n)) 12 0 → ⊥) → n < terms s
-    below f = ⊎_elim (λ l. l) (λ l. absurd (f (refl, (refl, l)))) (lt_or_ge n (terms s))
+    answers_iff (tells_asked s b n) (cond (is_deducible s (entry_marks s) n) 1 0) (DeducibleValue s n) (λ c. says_value 1 _ (says_deducible s b n c))
 
 -- yes and no
 module _ (s : List ℕ) (b : Bytes s) (n : ℕ) where

@@ -1,0 +1,26 @@
+-- `open_all` meets its contract: the terms before `head` are taken apart.
+use Prim.Native.Nat.{◌-◌}
+use Rattle.saturation.proofs.Firing.{open_start, next_inside, next_term, next_marked, open_still, next_less, open_more, open_end}
+use Rattle.std.proofs.Common.{rules}
+use Rattle.saturation.proofs.open_all.Goals as goal
+
+pub loop-head-init : goal.loop-head-init
+loop-head-init c = search (open_start, rules)
+
+pub bounds-order-head : goal.bounds-order-head
+bounds-order-head c = search (next_inside, rules)
+
+pub take_apart-reached-requires : goal.take_apart-reached-requires
+take_apart-reached-requires c = record { table_read = search rules; u_bound = search (next_term, rules); inverses = search rules; queue = search rules; reached = search (next_marked, rules) }
+
+pub fire-reached-requires : goal.fire-reached-requires
+fire-reached-requires c = record { table_read = search rules; inverses = search rules; chaining = search rules; queue = search rules; u_bound = search (next_term, rules); reached = search (open_still, rules) }
+
+pub loop-head-smaller : goal.loop-head-smaller
+loop-head-smaller c = search (next_less, rules)
+
+pub loop-head-preserved : goal.loop-head-preserved
+loop-head-preserved c = search (open_more, rules)
+
+pub returns : goal.returns
+returns c = record { grown = search rules; open_to_2 = search (open_end, rules) }

@@ -1,0 +1,13 @@
+-- `saturate` meets its contract: the start is entered, all is taken apart, and where a compound term is a key, all is composed.
+use Rattle.saturation.proofs.Saturation.{open_none, saturated_atoms, saturated_composed}
+use Rattle.std.proofs.Common.{rules}
+use Rattle.saturation.proofs.saturate.Goals as goal
+
+pub open_all-opened-requires : goal.open_all-opened-requires
+open_all-opened-requires c = record { table_read = search rules; inverses = search rules; chaining = search rules; queue = search rules; from_le_end = search rules; open_to = open_none }
+
+pub returns-then-not-has_compound_key : goal.returns-then-not-has_compound_key
+returns-then-not-has_compound_key c = search (saturated_atoms, rules)
+
+pub returns : goal.returns
+returns c = search (saturated_composed, rules)
