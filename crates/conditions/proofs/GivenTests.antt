@@ -14,7 +14,7 @@ use Rattle.submission.specs.declared.Row.{Row as RowRead}
 use Rattle.submission.specs.declared.Claims.TheVariants.{Verifier, Derived}
 use Rattle.submission.specs.declared.Target.{Target as TargetRead}
 use Rattle.submission.specs.declared.Target.TheVariants.{Guess, Inverse}
-use Rattle.submission.specs.{Record.entries, Record.entry_at, Record.conclusion_at, Record.verifying, Check.knowledge_step, Check.Target, Check.verifier, Check.derived, Check.claims_in, Check.claims, Check.row, Computed.are_inverse, Code.Limited, Code.way_is, Code.target_is, Code.claims_is, Code.row_is, Code.IsClaim}
+use Rattle.submission.specs.{Record.entries, Record.entry_at, Record.verifying, Check.knowledge_step, Check.Target, Check.verifier, Check.derived, Check.claims_in, Check.claims, Check.row, Computed.are_inverse, Code.Limited, Code.way_is, Code.target_is, Code.claims_is, Code.row_is, Code.IsClaim}
 use Rattle.derivation.specs.declared.Step.{Step}
 use Rattle.derivation.specs.Code.{IsStep}
 use Rattle.conditions.specs.Computed.{is_target, entry_found, is_given, checks8to10, check_met}

@@ -17,7 +17,7 @@ use Rattle.submission.specs.declared.Row.{Row as RowRead}
 use Rattle.submission.specs.declared.Operand.{Operand as OperandRead}
 use Rattle.submission.specs.declared.Operand.TheVariants.{VerifyingResult, CompanionResult, LowestConclusion, LowestCompanion, GuessRegister, GivenRegister}
 use Rattle.submission.specs.declared.Target.{Target as TargetRead}
-use Rattle.submission.specs.Check.{Way, another_step, at_start, inverse_key, guess_derived, inverse_derived, way_of, Target, the_guess, its_inverse, derived, claims_in, claims, knowledge_step, given_register, row}
+use Rattle.submission.specs.Check.{Way, another_step, at_start, inverse_key, guess_derived, inverse_derived, way_of, claims_in, knowledge_step, given_register, row}
 use Rattle.submission.specs.Code.{way_is, target_is, operand_is, row_is, IsClaim}
 use Rattle.term.specs.Code.{relation_is}
 use Rattle.program.specs.Program.{row_of, bytes_of, program_length}

@@ -15,7 +15,7 @@ use Rattle.base.proofs.Order.{lt_or_ge}
 use Rattle.term.specs.Number.{has_one}
 use Rattle.submission.specs.declared.Claim.{Claim}
 use Rattle.submission.specs.Code.{Limited, way_is, IsClaim}
-use Rattle.submission.specs.{Record.entries, Record.steps, Record.p_at, Record.way_at, Record.companion, Computed.are_inverse}
+use Rattle.submission.specs.{Record.entries, Record.steps, Record.p_at, Record.way_at, Computed.are_inverse}
 use Rattle.submission.specs.declared.Way.{Way as WayRead}
 use Rattle.submission.specs.declared.Way.TheVariants.{AnotherStep, AtStart, InverseKey}
 use Rattle.submission.specs.Check.{way_of}

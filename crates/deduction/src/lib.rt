@@ -574,7 +574,8 @@ fn saturate(
 {
     let entered = enter(s, start, marks, order);
     let opened = open_all(s, inverses, before, latest, marks, order, 0, entered);
-    if !has_compound_key(s) {
+    let only_atoms = !has_compound_key(s);
+    if only_atoms {
         return;
     }
     compose_all(s, inverses, before, latest, marks, order, opened);

@@ -452,7 +452,8 @@ fn mark_parts<'a>(
     if marks[i] != 1 {
         return;
     }
-    if ATOM <= heads[i] {
+    let is_atom = ATOM <= heads[i];
+    if is_atom {
         return;
     }
     let x = index(lefts[i]);

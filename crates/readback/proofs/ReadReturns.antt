@@ -4,7 +4,7 @@ use mathlib.Core.Logic.{⊎_elim}
 use mathlib.Core.Bool.{Bool, true, false, cond}
 use mathlib.Core.List.{List, [], ◌∷◌}
 use mathlib.Core.Option.{some}
-use Prim.Native.Nat.{ℕ, ◌+◌, ◌-◌, ◌≤◌, ◌<◌}
+use Prim.Native.Nat.{ℕ, ◌+◌, ◌≤◌, ◌<◌}
 use native.Mathlib.Omega.{arith}
 use native.Mathlib.Numerals.{add-one}
 use native.Mathlib.Nat.{le_antisymm}
@@ -20,7 +20,7 @@ use Rattle.base.proofs.{Order.lt_or_ge, Says.denies, Says.none_fails, AnswerLaws
 use Rattle.term.specs.{Term.equal, Code.relation_is, Number.has_one}
 use Rattle.term.specs.declared.Relation.{Relation as RelationGiven}
 use Rattle.term.specs.declared.Relation.TheVariants.{Equal, Inverse}
-use Rattle.submission.specs.{Record.terms, Record.entries, Record.guess, Code.SubmissionRead, Code.way_is, Code.range_is, Code.row_is, Code.IsClaimBytes, Check.row, Check.inverse_derived, Check.inverse_key, Check.knowledge_step}
+use Rattle.submission.specs.{Record.terms, Record.entries, Code.SubmissionRead, Code.way_is, Code.range_is, Code.row_is, Code.IsClaimBytes, Check.row, Check.inverse_derived, Check.inverse_key, Check.knowledge_step}
 use Rattle.submission.specs.declared.Range.{Range as RangeRead}
 use Rattle.submission.specs.declared.Range.TheVariants.{Step, StepOrKnowledge}
 use Rattle.submission.specs.declared.Row.{Row as RowRead}

@@ -1,6 +1,6 @@
 -- Saturation: the loops of `enter`, `has_compound_key` and `build_all`, and that the marks that are left are exact.
 use mathlib.Core.Path.{◌≡◌, refl, sym, ap, ◌∙◌}
-use mathlib.Core.Logic.{◌↔◌, ◌⊎◌, inl, inr, ⊎_elim}
+use mathlib.Core.Logic.{◌↔◌, inl, ⊎_elim}
 use mathlib.Core.Bool.{Bool, true, false, not, cond, false≢true, true≢false}
 use mathlib.Core.List.{List, []}
 use mathlib.Core.Option.{some}

@@ -1,20 +1,15 @@
 -- What the arrays of the working mean: the marks, which say how a term was reached, and the order in which terms were marked.
-use mathlib.Core.{Path.◌≡◌, Logic.◌↔◌, Logic.◌⊎◌, Bool.Bool, Bool.true, Bool.false, Bool.◌&&◌, Bool.not, Bool.cond, List.List, List.[], List.◌∷◌, List.map}
+use mathlib.Core.{Path.◌≡◌, Logic.◌↔◌, Logic.◌⊎◌, Bool.Bool, Bool.true, Bool.not, Bool.cond, List.List, List.[], List.◌∷◌, List.map}
 use Rattle.std.specs.Prelude.{ℕ, suc, ◌+◌, ◌≤◌, ◌<◌}
 use lib.{Dec.eqb, ListN.length, ListN.get_or, ListN.set}
-use Rattle.term.specs.{Step.Deducible, Term.symmetric, Term.asymmetric, Term.pair, Term.hash, Term.encryption, Term.make, Term.part, Term.decrypt, Term.Rec, Term.leaf, Term.branch}
-use Rattle.inverse.specs.Computed.{inverse_of}
-use Rattle.submission.specs.{Record.terms, Record.record_at, Record.term, Record.kind_at, Record.y_at}
-use Rattle.deduction.specs.declared.Parts.{Parts}
-use Rattle.deduction.specs.declared.Parts.TheVariants.{Nothing, Both}
-use Rattle.deduction.specs.declared.Opening.{Opening}
-use Rattle.deduction.specs.declared.Opening.TheVariants.{Freely, With, Shut}
+use Rattle.term.specs.{Step.Deducible}
+use Rattle.submission.specs.{Record.terms, Record.record_at, Record.term}
+use Rattle.deduction.specs.declared.Parts.TheVariants.{Both}
+use Rattle.deduction.specs.declared.Opening.TheVariants.{Freely, With}
 use Rattle.deduction.specs.declared.Role.{Role}
-use Rattle.deduction.specs.declared.Role.TheVariants.{Key, First, Second}
-use Rattle.deduction.specs.declared.Clause.{Clause}
-use Rattle.deduction.specs.declared.Clause.TheVariants.{Absent, From}
-use Rattle.deduction.specs.Computed.{at, built, is_deducible, Marked}
-use Rattle.deduction.specs.Code.{marks_of, SameMarks, parts_of, opening_of, linked, awaited, clause_of, has_hash_key}
+use Rattle.deduction.specs.declared.Clause.TheVariants.{From}
+use Rattle.deduction.specs.Computed.{built, is_deducible, Marked}
+use Rattle.deduction.specs.Code.{marks_of, parts_of, opening_of, clause_of}
 
 -- the marks of the working: that of a term that was reached says how, and is not 0
 abbrev pub reached_of : List ℕ → List Bool

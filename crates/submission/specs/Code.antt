@@ -19,7 +19,7 @@ use Rattle.submission.specs.declared.Operand.TheVariants.{VerifyingResult, Compa
 use Rattle.submission.specs.declared.Row.{Row as RowRead}
 use Rattle.submission.specs.declared.Reading.{Reading}
 use Rattle.submission.specs.declared.Reading.TheVariants.{Good, Refused}
-use Rattle.submission.specs.{Check.Way, Check.another_step, Check.at_start, Check.inverse_key, Check.guess_derived, Check.inverse_derived, Check.way_of, Check.Target, Check.the_guess, Check.its_inverse, Check.Claims, Check.verifier, Check.derived, Check.Range, Check.step_number, Check.term_number, Check.zero_only, Check.step_or_knowledge, Check.Operand, Check.verifying_result, Check.companion_result, Check.lowest_conclusion, Check.lowest_companion, Check.guess_register, Check.given_register, Check.Row, Record.start, Record.count, Record.terms, Record.kind_at, Record.x_at, Record.y_at, Record.guess, Record.verifying, Record.way_at, Record.companion, Record.InKnowledge, Computed.checks1to4, Computed.checks1to5}
+use Rattle.submission.specs.{Check.Way, Check.another_step, Check.at_start, Check.inverse_key, Check.guess_derived, Check.inverse_derived, Check.way_of, Check.Target, Check.the_guess, Check.its_inverse, Check.Claims, Check.verifier, Check.derived, Check.Range, Check.step_number, Check.term_number, Check.zero_only, Check.step_or_knowledge, Check.Operand, Check.verifying_result, Check.companion_result, Check.lowest_conclusion, Check.lowest_companion, Check.guess_register, Check.given_register, Check.Row, Record.start, Record.count, Record.kind_at, Record.x_at, Record.y_at, Record.guess, Record.verifying, Record.way_at, Record.companion, Record.InKnowledge, Computed.checks1to4, Computed.checks1to5}
 use Rattle.term.specs.Term as words
 use Rattle.term.specs.Code.{relation_is}
 use Rattle.base.specs.{Words.Bytes, Computed.Check, Computed.passes, Computed.fails}

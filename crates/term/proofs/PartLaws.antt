@@ -1,13 +1,13 @@
 -- Laws of parts: the test says what it tests, parts of parts are parts, and a table that holds a term holds its parts.
 use mathlib.Core.Path.{◌≡◌, sym, ◌∙◌, subst}
-use mathlib.Core.Logic.{◌⊎◌, inl, inr, ⊎_elim}
+use mathlib.Core.Logic.{inl, inr, ⊎_elim}
 use Prim.Native.Nat.{ℕ, zero, suc, ◌<◌}
 use native.Mathlib.Omega.{arith}
 use Rattle.base.proofs.Says.{Says, says_or}
-use Rattle.term.specs.{Term.Head, Term.Term, Term.atom, Term.node, Term.Rec, Term.leaf, Term.branch, Term.message, Computed.term?, Term.Part}
+use Rattle.term.specs.{Term.Term, Term.atom, Term.node, Term.Rec, Term.leaf, Term.branch, Term.message, Computed.term?, Term.Part}
 use Rattle.term.specs.Code.{Below, Table}
 use Rattle.term.specs.Computed.{is_part}
-use Rattle.term.proofs.Reduce.{says_test, part_self}
+use Rattle.term.proofs.Reduce.{says_test}
 
 pub says_part : (x t : Term) → Says (is_part x t) (Part x t)
 unfolding is_part

@@ -15,7 +15,7 @@ use Rattle.submission.proofs.Theory.ListedTerms.{facts}
 use Rattle.derivation.specs.declared.Step.{Step}
 use Rattle.saturation.specs.Code.{start_mark, Reached, ComesFrom, How, Among, Queue}
 use Rattle.saturation.proofs.{Clauses.comes_by, MarkOrder.among_marked}
-use Rattle.witness.specs.Code.{step_from, concluding_step, concluding_second, ConcludingPremise, HasStep, StartedOrHasStep, ChosenOne, Chosen}
+use Rattle.witness.specs.Code.{concluding_step, concluding_second, ConcludingPremise, HasStep, StartedOrHasStep, ChosenOne, Chosen}
 use Rattle.witness.proofs.StepsFrom.{Infers, infers}
 
 -- ---- a term more that is needed

@@ -1,21 +1,19 @@
 -- The steps of the chosen terms: the records on the page, and that they are a deduction.
 use mathlib.Core.Path.{◌≡◌, refl, sym, ap, ◌∙◌, subst}
-use mathlib.Core.Logic.{◌↔◌, ◌⊎◌, inl, inr, ⊎_elim}
-use mathlib.Core.Bool.{true}
-use mathlib.Core.List.{List, []}
-use Prim.Native.Nat.{ℕ, zero, suc, ◌+◌, ◌-◌, ◌*◌, ◌≤◌, ◌<◌}
+use mathlib.Core.Logic.{◌↔◌, inl, inr, ⊎_elim}
+use mathlib.Core.List.{List}
+use Prim.Native.Nat.{ℕ, suc, ◌+◌, ◌-◌, ◌*◌, ◌≤◌, ◌<◌}
 use native.Mathlib.Omega.{arith}
-use native.Mathlib.Numerals.{add-one}
-use lib.ListN.{length, get_or}
+use lib.ListN.{get_or}
 use Rattle.base.specs.{Words.fours, Words.byte, Answer.Puts}
-use Rattle.base.proofs.{Order.lt_or_ge, Fours.fours_length, Fours.fours_at, PutLaws.puts_none, PutLaws.puts_then}
+use Rattle.base.proofs.{Fours.fours_length, Fours.fours_at, PutLaws.puts_none, PutLaws.puts_then}
 use Rattle.term.specs.Term.{Term}
 use Rattle.submission.specs.Record.{terms, second_for, term, InKnowledge}
 use Rattle.submission.specs.Code.{TableRead}
 use Rattle.submission.proofs.Theory.ListedTerms.{facts}
 use Rattle.derivation.specs.Step.{RecordFits}
 use Rattle.derivation.specs.declared.Step.{Step}
-use Rattle.deduction.specs.Computed.{at, entry_marks}
+use Rattle.deduction.specs.Computed.{entry_marks}
 use Rattle.deduction.specs.Code.{marks_of, SameMarks}
 use Rattle.saturation.specs.Code.{start_mark, AllReached}
 use Rattle.deduction.proofs.{Theory.Exactness.in_knowledge_iff}

@@ -1,7 +1,7 @@
 -- The step by which a term comes from a record: the returns of `built_step` to `concluding_step`, and that the step is one of the table.
-use mathlib.Core.Path.{◌≡◌, refl, sym, ap, ap₂, ◌∙◌, subst}
-use mathlib.Core.Logic.{◌⊎◌, inl, inr, ⊎_elim}
-use mathlib.Core.Bool.{Bool, true, false, cond, false≢true}
+use mathlib.Core.Path.{◌≡◌, refl, sym, ap, ◌∙◌}
+use mathlib.Core.Logic.{◌⊎◌, ⊎_elim}
+use mathlib.Core.Bool.{Bool, true, false, cond}
 use mathlib.Core.List.{List}
 use mathlib.Core.Option.{some}
 use Prim.Native.Nat.{ℕ, ◌-◌, ◌≤◌, ◌<◌}
@@ -9,23 +9,23 @@ use native.Mathlib.Omega.{arith}
 use lib.Dec.{eqb}
 use lib.ListN.{get_or}
 use borrow.Author.Tests.{eq-eqb, ne_eqb, eqb-true, eqb-false}
-use Rattle.term.specs.Term.{symmetric, asymmetric, left, right, Form, pair, hash, encryption, unary, Second, absent, anything, key_for, second, make, part, decrypt, Shape, atomic, compound}
-use Rattle.term.specs.{Number.rules, Number.shape_of, Number.head_of, Number.has_one, Computed.kind_of, Code.rule_of, Code.builder_of}
+use Rattle.term.specs.Term.{symmetric, asymmetric, left, right, pair, hash, encryption, unary, Second, absent, anything, key_for, second, make, part, Shape, atomic, compound}
+use Rattle.term.specs.{Number.shape_of, Number.head_of, Number.has_one, Code.rule_of, Code.builder_of}
 use Rattle.term.proofs.{Rule.head_rule, Rule.rule_below, Kind.shape_kind}
 use Rattle.submission.specs.declared.Term.{Term}
 use Rattle.submission.specs.Check.{HasSecond, Shaped}
 use Rattle.submission.specs.Code.{TableRead, IsTerm}
-use Rattle.submission.specs.{Record.terms, Record.kind_at, Record.x_at, Record.y_at, Record.name_at, Record.record_of, Record.record_at, Record.second_for, Computed.are_inverse}
+use Rattle.submission.specs.{Record.terms, Record.kind_at, Record.x_at, Record.y_at, Record.record_at, Record.second_for, Computed.are_inverse}
 use Rattle.submission.proofs.Theory.ListedTerms.{facts}
 use Rattle.inverse.specs.Computed.{inverse_of}
 use Rattle.derivation.specs.Step.{RecordFits}
 use Rattle.derivation.specs.declared.Step.{Step}
-use Rattle.derivation.proofs.Theory.StepMeaning.{Followed, record_fits}
+use Rattle.derivation.proofs.Theory.StepMeaning.{record_fits}
 use Rattle.deduction.specs.declared.Parts.TheVariants.{Nothing, Both}
 use Rattle.deduction.specs.declared.Opening.{Opening}
 use Rattle.deduction.specs.declared.Opening.TheVariants.{Freely, With, Shut}
 use Rattle.deduction.specs.Code.{parts_of, opening_in, opening_of}
-use Rattle.saturation.specs.Code.{start_mark, ComesFrom, from_parts, from_pair, from_key}
+use Rattle.saturation.specs.Code.{ComesFrom, from_parts, from_pair, from_key}
 use Rattle.deduction.proofs.{BuildMemo.shape_record, OpeningKeys.the_inverse, RecordOpening.with_listed}
 use Rattle.witness.specs.Code.{built_step, part_rule, part_step, opening_rule, with_step, opened_step, step_from, concluding_step, HasStep}
 

@@ -1,6 +1,5 @@
 -- The loop's invariant: the bytes passed stand in the buffer.
 use Rattle.std.proofs.Common.{rules}
-use Prim.Native.Nat.{◌-◌}
 use Rattle.base.proofs.PutLaws.{copied_none, copied_more, copied_all}
 use Rattle.base.proofs.copy.Goals as goal
 

@@ -1,16 +1,16 @@
 -- What is promised of guesses that are already known holds.
 use mathlib.Core.Path.{◌≡◌, refl, sym, subst}
 use mathlib.Core.Logic.Iff
-use mathlib.Core.Logic.{◌↔◌, inl, inr, ⊎_elim}
+use mathlib.Core.Logic.{◌↔◌, inl, ⊎_elim}
 use mathlib.Core.List.{List, [], ◌∷◌, ◌++◌}
 use Prim.Native.Nat.{ℕ, ◌≤◌}
 use native.Mathlib.Omega.{arith}
-use Rattle.base.specs.{Words.Bytes, Answer.refused, Answer.Clear, Answer.Refuses, Answer.row11}
+use Rattle.base.specs.{Words.Bytes, Answer.refused, Answer.Refuses, Answer.row11}
 use Rattle.base.proofs.RefusalLaws.{first_of, after_refuses, refuses_split, refuses_some, Numbers, some_number}
 use Rattle.submission.specs.{Record.steps, Record.way_at, Check.way_of, Check.Target, Check.the_guess, Check.its_inverse, Check.derived, Check.claims}
 use Rattle.submission.proofs.Theory.{ListedTerms.claimed_fits, ListedTerms.guess_key, ReadingRows.claimed_clear}
 use Rattle.program.specs.Program.{program_length}
-use Rattle.conditions.specs.{Condition.WellFormed, Condition.Given, Condition.target, Condition.ClaimMet, Condition.EachFounded, Condition.FiveConditions, Condition.rows1to7, Condition.claim_rows, Condition.check_rows, Computed.check_answer}
+use Rattle.conditions.specs.{Condition.WellFormed, Condition.Given, Condition.target, Condition.ClaimMet, Condition.EachFounded, Condition.FiveConditions, Condition.rows1to7, Condition.claim_rows, Condition.check_rows}
 use Rattle.conditions.proofs.Theory.{Acceptance.begun_iff, Acceptance.accepted_iff, KnownGuess.target_deducible, KnownGuess.guess_hidden, KnownGuess.guess_unread, Refusal.check_exact, Signal.own_value}
 use Rattle.checker.specs.KnownGuess.{KnownGuessPromise}
 

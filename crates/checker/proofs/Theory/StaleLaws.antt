@@ -1,6 +1,6 @@
 -- What is promised of stale names holds.
 use mathlib.Core.Path.{refl}
-use Rattle.machine.specs.Run.{StaleName, signal}
+use Rattle.machine.specs.Run.{signal}
 use Rattle.machine.proofs.Theory.StaleNames.{stale_exact, taken_fresh, fresh_taken, answers_kept}
 use Rattle.conditions.proofs.Theory.Promise.{demand_3_taken}
 use Rattle.checker.specs.Stale.{StalePromise}

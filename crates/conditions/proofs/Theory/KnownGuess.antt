@@ -1,7 +1,7 @@
 -- What is known before a step is reached from the knowledge alone, where the guess does not count or is reached itself. So an acceptance in ways
 -- k and j says that the term claimed is deducible, and one in another way that the guess is not.
-use mathlib.Core.Path.{◌≡◌, refl, sym, ap, ◌∙◌, subst}
-use mathlib.Core.Logic.{◌↔◌, inl, inr, ⊎_elim}
+use mathlib.Core.Path.{◌≡◌, sym, ap, ◌∙◌, subst}
+use mathlib.Core.Logic.{inl, inr, ⊎_elim}
 use mathlib.Core.Bool.{true, false≢true}
 use mathlib.Core.List.{List}
 use Prim.Native.Nat.{ℕ, zero, suc, ◌≤◌, ◌<◌}
@@ -9,7 +9,7 @@ use native.Mathlib.Omega.{arith}
 use Rattle.base.specs.Words.{Bytes}
 use Rattle.term.specs.{Term.Term, Step.Deducible}
 use Rattle.term.proofs.Reach.{Reach, known, stepped, reach_iff}
-use Rattle.submission.specs.{Record.entries, Record.steps, Record.p_at, Record.second_at, Record.guess, Record.verifying, Record.term, Record.InKnowledge, Check.Target, Check.Claims, Check.verifier, Check.derived, Check.claims}
+use Rattle.submission.specs.{Record.entries, Record.steps, Record.p_at, Record.second_at, Record.guess, Record.verifying, Record.term, Record.InKnowledge, Check.Target, Check.verifier, Check.derived, Check.claims}
 use Rattle.derivation.specs.{Step.first_premise, Step.second_premise, Step.rule, Step.concluded, Step.guess_counts, Step.Known, Step.register_counts, Computed.is_known}
 use Rattle.derivation.proofs.Theory.RegisterTerms.{counts_guess}
 use Rattle.program.specs.Program.{operand}

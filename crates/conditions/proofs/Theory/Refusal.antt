@@ -5,14 +5,13 @@ use mathlib.Core.Bool.{not}
 use mathlib.Core.List.{List, [], ◌∷◌}
 use Prim.Native.Nat.{ℕ, ◌<◌}
 use Rattle.base.specs.Words.{Bytes, first}
-use Rattle.base.specs.Answer.{Answer, numbered, Clear, Answers}
+use Rattle.base.specs.Answer.{Answer, Clear, Answers}
 use Rattle.base.specs.Computed.{fails_if, fails_at, check_room, and_then}
 use Rattle.base.proofs.Says.{says_not}
 use Rattle.base.proofs.RefusalLaws.{Tells, passes_iff, tells_if, tells_at, tells_room, tells_then, answers_iff}
-use Rattle.term.specs.{Term.Term, Step.Deducible}
-use Rattle.submission.specs.{Record.steps, Record.verifying, Record.way_at, Record.InKnowledge, Check.way_of, Check.Claims, Check.verifier, Check.derived, Check.claims, Computed.checks1to5}
+use Rattle.submission.specs.{Record.steps, Record.verifying, Record.way_at, Check.way_of, Check.Claims, Check.verifier, Check.derived, Check.claims, Computed.checks1to5}
 use Rattle.submission.proofs.Theory.{ListedTerms.Claimed, ReadingRows.tells_1_to_5, ReadingRows.claimed_clear}
-use Rattle.derivation.specs.{Computed.check_steps, Step.Premise, Step.StepFits, Step.rows6and7}
+use Rattle.derivation.specs.{Computed.check_steps, Step.StepFits, Step.rows6and7}
 use Rattle.derivation.proofs.Theory.StepMeaning.{fits_iff, steps_pass, tells_6_and_7}
 use Rattle.program.specs.Program.{program_length}
 use Rattle.conditions.specs.Computed.{reachable, has_second_way, undone, is_given, check_met, checks_before_page, check_answer}

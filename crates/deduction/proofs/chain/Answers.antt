@@ -1,5 +1,4 @@
 -- `chain` meets its contract: the records before i are linked.
-use Prim.Native.Nat.{◌-◌}
 use native.Mathlib.Omega.{arith}
 use Rattle.deduction.proofs.Clauses.{linked_start, linked_more, linked_end}
 use Rattle.std.proofs.Common.{rules}

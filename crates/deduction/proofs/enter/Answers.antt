@@ -1,5 +1,4 @@
 -- `enter` meets its contract: the terms before i that the start marks are entered.
-use Prim.Native.Nat.{◌-◌}
 use Rattle.deduction.proofs.Saturation.{entering_none, entering_skip, entering_more, entering_sound}
 use Rattle.std.proofs.Common.{rules}
 use Rattle.deduction.proofs.enter.Goals as goal

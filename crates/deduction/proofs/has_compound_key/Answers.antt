@@ -1,5 +1,4 @@
 -- `has_compound_key` meets its contract: no record before i is under a hash.
-use Prim.Native.Nat.{◌-◌}
 use Rattle.base.proofs.Scan.{scan}
 use Rattle.deduction.proofs.Saturation.{has_one_lem, has_none}
 use Rattle.deduction.proofs.has_compound_key.Goals as goal

@@ -1,5 +1,5 @@
 -- `knowledge_marks` meets its contract: the terms of the first i entries are marked.
-use Prim.Native.Nat.{◌-◌, ◌<◌}
+use Prim.Native.Nat.{◌<◌}
 use native.Mathlib.Omega.{arith}
 use Rattle.std.proofs.Common.{rules}
 use Rattle.base.proofs.Stores.{noted_none, noted_more}

@@ -1,5 +1,4 @@
 -- `open_all` meets its contract: the terms before `head` are taken apart.
-use Prim.Native.Nat.{◌-◌}
 use Rattle.deduction.proofs.Firing.{open_start, next_inside, next_term, next_marked, open_still, next_less, open_more, open_end}
 use Rattle.std.proofs.Common.{rules}
 use Rattle.deduction.proofs.open_all.Goals as goal

@@ -6,8 +6,8 @@ use Rattle.deduction.proofs.saturate.Goals as goal
 pub open_all-opened-requires : goal.open_all-opened-requires
 open_all-opened-requires c = record { table_read = search rules; inverses = search rules; chaining = search rules; queue = search rules; from_le_end = search rules; open_to = open_none }
 
-pub returns-then-not-has_compound_key : goal.returns-then-not-has_compound_key
-returns-then-not-has_compound_key c = search (saturated_atoms, rules)
+pub returns-then-only_atoms : goal.returns-then-only_atoms
+returns-then-only_atoms c = search (saturated_atoms, rules)
 
 pub returns : goal.returns
 returns c = search (saturated_composed, rules)

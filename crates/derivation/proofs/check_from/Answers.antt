@@ -1,5 +1,4 @@
 -- `check_from` is checks 6 and 7. The loop's invariant: the steps before i pass, and their results are in the registers.
-use Prim.Native.Nat.{◌-◌}
 use Rattle.base.proofs.First.{passed_none}
 use Rattle.derivation.proofs.RegistersHeld.{result_written}
 use Rattle.derivation.proofs.StepReturns.{steps_go_on, steps_stop, steps_end}

@@ -1,5 +1,4 @@
 -- `initial` writes the knowledge's registers in order, then the guess's. The loop's invariant: the first i registers are written.
-use Prim.Native.Nat.{◌-◌}
 use native.Mathlib.Omega.{arith}
 use Rattle.derivation.proofs.RegistersHeld.{lowest_none, entry_written, guess_written}
 use Rattle.std.proofs.Common.{rules}

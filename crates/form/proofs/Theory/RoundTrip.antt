@@ -2,7 +2,7 @@
 use mathlib.Core.Path.{◌≡◌, refl, sym, ap}
 use mathlib.Core.Logic.{◌⊎◌}
 use mathlib.Core.List.{List, [], ◌++◌, append_assoc, append-nil}
-use Prim.Native.Nat.{ℕ, ◌+◌, ◌-◌, ◌*◌, ◌≤◌, ◌<◌}
+use Prim.Native.Nat.{ℕ, ◌+◌, ◌*◌, ◌≤◌, ◌<◌}
 use native.Mathlib.Omega.{arith}
 use lib.ListN.{length, take, drop, length-append, length-drop}
 use lib.Seq.{take_at, drop_at, take-add, take_all, length-take-le}
@@ -10,7 +10,7 @@ use Rattle.base.specs.Words.{Bytes}
 use Rattle.base.specs.Answer.{done, Clear}
 use Rattle.base.proofs.{RefusalLaws.passes_iff, Says.each_of_four}
 use Rattle.submission.specs.Record.{count, width, least, most, start_of, start}
-use Rattle.submission.specs.Body.{Bodies, bodies, body, records, body_at, bodies_of, contents, submission_of}
+use Rattle.submission.specs.Body.{Bodies, body, records, body_at, bodies_of, contents, submission_of}
 use Rattle.submission.specs.Check.{rows1and2}
 use Rattle.submission.proofs.Theory.{ContentsMeant.contents_length, ReadingRows.tells_limits, ReadingRows.contents_fit}
 use Rattle.form.specs.{Write.ReadsAs, Write.FormPromise, Computed.write_answer, Code.Writable}

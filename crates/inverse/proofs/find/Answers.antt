@@ -1,5 +1,4 @@
 -- `find` meets its contract: the inverses among the first k terms are noted, and their keys are chained.
-use Prim.Native.Nat.{◌-◌}
 use native.Mathlib.Omega.{arith}
 use Rattle.std.proofs.Common.{rules}
 use Rattle.base.proofs.Chains.{chaining_none}

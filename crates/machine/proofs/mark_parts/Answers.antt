@@ -6,8 +6,8 @@ use Rattle.machine.proofs.mark_parts.Goals as goal
 pub returns-then-marks-i-ne1 : goal.returns-then-marks-i-ne1
 returns-then-marks-i-ne1 c = search (treated_unmarked, rules)
 
-pub returns-then-heads-i-ge-ATOM : goal.returns-then-heads-i-ge-ATOM
-returns-then-heads-i-ge-ATOM c = search (treated_atom, rules)
+pub returns-then-is_atom : goal.returns-then-is_atom
+returns-then-is_atom c = search (treated_atom, rules)
 
 pub bounds-marks-x : goal.bounds-marks-x
 bounds-marks-x c = search (left_marks, rules)

@@ -5,10 +5,9 @@ use mathlib.Core.Bool.{Bool, true, false, cond}
 use mathlib.Core.List.{List, [], ◌∷◌, ◌++◌}
 use Prim.Native.Nat.{ℕ, zero, suc, ◌+◌, ◌*◌, ◌≤◌, ◌<◌}
 use native.Mathlib.Omega.{arith}
-use lib.ListN.{length, get_or, length-append, get_or-append}
-use lib.Seq.{get_or-append-add}
+use lib.ListN.{length, get_or, length-append}
 use Rattle.base.specs.{Words.fours, Words.byte, Words.Bytes, Answer.done, Answer.Clear, Answer.numbered}
-use Rattle.base.proofs.{Order.lt_or_ge, Fours.fours_length, Fours.fours_at, Says.denies, Says.refutes, Says.each_of_four, RefusalLaws.passes_iff, RefusalLaws.clear_split}
+use Rattle.base.proofs.{Fours.fours_length, Fours.fours_at, Says.denies, Says.refutes, Says.each_of_four, RefusalLaws.passes_iff, RefusalLaws.clear_split}
 use Rattle.term.specs.{Term.Head, Term.Second, Term.absent, Term.anything, Term.key_for, Term.second, Term.Shape, Term.atomic, Term.compound, Term.is_key_for, Term.single, Term.void, Number.shape_of, Number.head_of, Number.has_one, Reduce.op, Step.Step, Code.Message}
 use Rattle.term.proofs.Reduce.{op_step}
 use Rattle.submission.specs.Record.{count, width, least, most, start, terms, entries, steps, kind_at, y_at, entry_at, rule_at, p_at, q_at, second_at, conclusion_at, guess, name_at, term}

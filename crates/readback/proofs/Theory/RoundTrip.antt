@@ -1,7 +1,7 @@
 -- A6's promises: an accepted page gives back its own derivation and claim; these, checked again, yield that page; and what is read back of any
 -- program are steps of the table of steps.
 use mathlib.Core.Path.{◌≡◌, sym, ap, ap₂, ◌∙◌}
-use mathlib.Core.Bool.{true, false, true≢false}
+use mathlib.Core.Bool.{true≢false}
 use mathlib.Core.List.{List}
 use Prim.Native.Nat.{ℕ, ◌+◌, ◌≤◌, ◌<◌}
 use native.Mathlib.Omega.{arith}

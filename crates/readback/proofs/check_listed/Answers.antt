@@ -3,7 +3,6 @@ use Rattle.std.proofs.Common.{rules}
 use Rattle.readback.proofs.ReadReturns.{off_found, on_found, register_in}
 use Rattle.base.proofs.First.{passed_none, passed_more}
 use Rattle.base.proofs.StageLaws.{fails_hit, passes_all}
-use Prim.Native.Nat.{◌-◌}
 use Rattle.readback.proofs.check_listed.Goals as goal
 
 pub loop-r-init : goal.loop-r-init

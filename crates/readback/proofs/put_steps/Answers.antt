@@ -2,7 +2,6 @@
 use Rattle.std.proofs.Common.{rules}
 use Rattle.readback.proofs.ReadReturns.{steps_none, steps_more, steps_all}
 use Rattle.base.proofs.PutLaws.{puts_length}
-use Prim.Native.Nat.{◌-◌}
 use Rattle.readback.proofs.put_steps.Goals as goal
 
 pub loop-i-init : goal.loop-i-init

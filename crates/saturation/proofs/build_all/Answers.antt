@@ -1,5 +1,4 @@
 -- `build_all` meets its contract: the terms before i are marked where their parts are.
-use Prim.Native.Nat.{◌-◌}
 use Rattle.saturation.proofs.Saturation.{building_none, building_more, building_end}
 use Rattle.std.proofs.Common.{rules}
 use Rattle.saturation.proofs.build_all.Goals as goal

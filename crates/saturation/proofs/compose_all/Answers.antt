@@ -1,5 +1,4 @@
 -- `compose_all` meets its contract: what is built of the terms before `head` is marked.
-use Prim.Native.Nat.{◌-◌}
 use Rattle.saturation.proofs.Firing.{compose_start, next_inside, next_term, next_marked, next_less, compose_more, compose_end}
 use Rattle.std.proofs.Common.{rules}
 use Rattle.saturation.proofs.compose_all.Goals as goal

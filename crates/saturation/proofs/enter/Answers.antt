@@ -1,5 +1,4 @@
 -- `enter` meets its contract: the terms before i that the start marks are entered.
-use Prim.Native.Nat.{◌-◌}
 use Rattle.saturation.proofs.Saturation.{entering_none, entering_skip, entering_more, entering_all}
 use Rattle.std.proofs.Common.{rules}
 use Rattle.saturation.proofs.enter.Goals as goal

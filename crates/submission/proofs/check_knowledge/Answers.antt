@@ -1,5 +1,5 @@
 -- `check_knowledge` meets its contract: the entries before i are good, and noted.
-use Prim.Native.Nat.{◌-◌, ◌<◌}
+use Prim.Native.Nat.{◌<◌}
 use native.Mathlib.Omega.{arith}
 use Rattle.base.proofs.Scan.{scan}
 use Rattle.base.proofs.First.{passed_none}

@@ -1,5 +1,4 @@
 -- `check_limits` meets its contract: the counts before i are within their limits.
-use Prim.Native.Nat.{◌-◌}
 use Rattle.base.proofs.Scan.{scan}
 use Rattle.submission.proofs.ContentsTests.{too_few, too_many, within}
 use Rattle.base.proofs.StageLaws.{fails_hit, passes_all}

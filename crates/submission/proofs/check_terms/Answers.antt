@@ -1,5 +1,5 @@
 -- `check_terms` meets its contract: the records before i are good, and their chains are made.
-use Prim.Native.Nat.{◌-◌, ◌<◌}
+use Prim.Native.Nat.{◌<◌}
 use native.Mathlib.Omega.{arith}
 use Rattle.base.proofs.Scan.{scan}
 use Rattle.base.proofs.First.{passed_none}

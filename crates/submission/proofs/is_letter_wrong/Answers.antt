@@ -1,5 +1,4 @@
 -- `is_letter_wrong` meets its contract: the letters before i are right.
-use Prim.Native.Nat.{◌-◌}
 use Rattle.base.proofs.Scan.{scan}
 use Rattle.submission.proofs.ContentsTests.{letter_wrong, letter_right}
 use Rattle.submission.proofs.is_letter_wrong.Goals as goal

@@ -1,7 +1,6 @@
 -- The loop's invariant: the lines of the instructions passed stand in the buffer.
 use Rattle.text.proofs.LineReturns.{steps_none, steps_more, steps_all}
 use Rattle.std.proofs.Common.{rules}
-use Prim.Native.Nat.{◌-◌}
 use Rattle.base.proofs.PutLaws.{puts_length}
 use Rattle.text.proofs.put_steps.Goals as goal
 

@@ -1,5 +1,4 @@
 -- `put_steps` meets its contract: the records of the steps before i stand on the page.
-use Prim.Native.Nat.{◌-◌}
 use Rattle.base.proofs.PutLaws.{puts_length}
 use Rattle.witness.proofs.ShownSteps.{putting_none, putting_concluded, putting_more, putting_end}
 use Rattle.std.proofs.Common.{rules}

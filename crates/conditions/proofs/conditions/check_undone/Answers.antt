@@ -1,5 +1,4 @@
 -- `check_undone` meets its contract: no step before i is undone.
-use Prim.Native.Nat.{◌-◌}
 use Rattle.base.proofs.StageLaws.{fails_hit, passes_all}
 use Rattle.base.proofs.Scan.{scan}
 use Rattle.conditions.proofs.conditions.check_undone.Goals as goal

@@ -1,5 +1,4 @@
 -- `entry_given` finds the entry that is the term claimed. The loop's invariant: it is none of the first i.
-use Prim.Native.Nat.{◌-◌}
 use Rattle.base.proofs.Scan.{scan}
 use Rattle.conditions.proofs.GivenTests.{entry_found_lem, no_entry, entry_passed}
 use Rattle.conditions.proofs.given.entry_given.Goals as goal

@@ -1,5 +1,4 @@
 -- `program_of` meets its contract: the array holds the first i instructions.
-use Prim.Native.Nat.{◌-◌}
 use native.Mathlib.Omega.{arith}
 use Rattle.program.proofs.Theory.Value.{holds_none}
 use Rattle.conditions.proofs.ProgramValue.{step_within, step_held, all_held}
