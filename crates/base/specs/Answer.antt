@@ -1,6 +1,7 @@
 -- What a call answers, promises and leaves on its page, and what the table of verdicts and its order mean: document 01, 'Verdicts'.
+use Rattle.std.specs.Prelude.{◌≡◌, ◌⊎◌, ◌∷◌, ◌++◌, ◌+◌, ◌-◌, ◌<◌, ◌≤◌}
 use Rattle.base.specs.declared.Answer.TheVariants as given
-use Rattle.base.specs.{declared.Answer.Answer as AnswerGiven, Words.◌≡◌, Words.◌⊎◌, Words.List, Words.[], Words.◌∷◌, Words.◌++◌, Words.ℕ, Words.◌+◌, Words.◌-◌, Words.◌<◌, Words.◌≤◌, Words.min, Words.length, Words.drop, Words.sets}
+use Rattle.base.specs.{declared.Answer.Answer as AnswerGiven, Words.List, Words.[], Words.ℕ, Words.min, Words.length, Words.drop, Words.sets}
 
 -- "An acceptance carries N"; deducible's yes and no are 1 and 0, and so is the signal; an acceptance that writes a page "carries their number
 -- unless another count is named", of the bytes written. "Every refusal carries number and place."

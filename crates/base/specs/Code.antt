@@ -1,5 +1,6 @@
 -- What a stage of the code means in document 01's terms, and notions that only proofs use.
-use Rattle.base.specs.Words.{◌≡◌, ◌⊎◌, Bool, true, false, List, Option, none, some, ℕ, ◌<◌, length, get_or}
+use Rattle.std.specs.Prelude.{◌≡◌, ◌⊎◌, ◌<◌}
+use Rattle.base.specs.Words.{Bool, true, false, List, Option, none, some, ℕ, length, get_or}
 use Rattle.base.specs.declared.Stage.{Stage}
 use Rattle.base.specs.declared.Stage.TheVariants.{Passed, Refused}
 use Rattle.base.specs.Computed.{Check, passes, fails}

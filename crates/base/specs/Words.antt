@@ -1,7 +1,8 @@
--- The words of logic, numbers and lists that the definitions are written in: the library's, and a few notions of lists.
+-- The words of logic, numbers and lists that the definitions are written in, beside the library's operators: the library's, and a few notions of lists.
 pub use mathlib.Core.Logic.Dec.{and as Dec·and}
-pub use mathlib.Core.{Path.◌≡◌, Logic.◌⊎◌, Logic.◌↔◌, Logic.ite, Bool.Bool, Bool.true, Bool.false, Bool.◌&&◌, Bool.◌||◌, Bool.not, Bool.cond, Option.Option, Option.none, Option.some, List.List, List.[], List.◌∷◌, List.◌++◌, List.map}
-pub use Rattle.std.specs.Prelude.{ℕ, zero, suc, ◌+◌, ◌-◌, ◌*◌, ◌/◌, ◌%◌, ◌≤◌, ◌<◌, min}
+pub use mathlib.Core.{Logic.ite, Bool.Bool, Bool.true, Bool.false, Bool.not, Bool.cond, Option.Option, Option.none, Option.some, List.List, List.[], List.map}
+use Rattle.std.specs.Prelude.{◌∷◌, ◌++◌, ◌<◌}
+pub use Rattle.std.specs.Prelude.{ℕ, zero, suc, min}
 pub use lib.{Dec.eqb, Dec.ltb, Dec.T as Holds, ListN.length, ListN.get_or, ListN.get_elem?, ListN.take, ListN.drop, ListN.replicate, Seq.sets}
 
 -- the first of i, i + 1, .. (n numbers) at which p holds

@@ -1,5 +1,6 @@
 -- What the calls promise that stand in this crate: those for C, and `write_verdict`.
-use Rattle.base.specs.{Words.◌≡◌, Words.List, Words.ℕ, Words.◌+◌, Words.◌*◌, Words.◌≤◌, Words.length, Words.take, Words.replicate, Answer.Answer, Answer.done, Answer.refused, Answer.Writes, Answer.Puts, Answer.page_after}
+use Rattle.std.specs.Prelude.{◌≡◌, ◌+◌, ◌*◌, ◌≤◌}
+use Rattle.base.specs.{Words.List, Words.ℕ, Words.length, Words.take, Words.replicate, Answer.Answer, Answer.done, Answer.refused, Answer.Writes, Answer.Puts, Answer.page_after}
 use Rattle.submission.specs.{Record.entries, Body.Bodies, Body.submission_of}
 use Rattle.form.specs.Computed.{write_answer}
 use Rattle.inverse.specs.Computed.{inverses_of, inverses_answer}

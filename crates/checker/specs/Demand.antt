@@ -1,5 +1,6 @@
 -- Demand 1, of every call. Demands 2 and 3 are stated with the conditions.
-use Rattle.base.specs.{Words.◌≡◌, Words.◌↔◌, Words.List, Words.ℕ, Words.length, Words.byte, Words.Bytes, Answer.Answer, Answer.Answers}
+use Rattle.std.specs.Prelude.{◌≡◌, ◌↔◌}
+use Rattle.base.specs.{Words.List, Words.ℕ, Words.length, Words.byte, Words.Bytes, Answer.Answer, Answer.Answers}
 use Rattle.submission.specs.{Record.terms, Record.steps, Body.Bodies, Body.submission_of}
 use Rattle.form.specs.{Write.write_rows, Computed.write_answer}
 use Rattle.inverse.specs.{Inverse.inverses_rows, Computed.inverses_answer}

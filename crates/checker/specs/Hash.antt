@@ -1,6 +1,7 @@
 -- What is promised of hashes: document 02, A2, "One-way functions". "Deducibility, the conditions, the page and the promise about wrong guesses
 -- all take in the new kind": demands 1 to 3 are about all terms, and so about hashes.
-use Rattle.base.specs.{Words.◌≡◌, Words.◌⊎◌, Words.◌↔◌, Words.List, Words.[], Words.◌∷◌, Words.◌++◌, Words.ℕ, Words.◌<◌, Words.Bytes, Answer.Clear}
+use Rattle.std.specs.Prelude.{◌≡◌, ◌⊎◌, ◌↔◌, ◌∷◌, ◌++◌, ◌<◌}
+use Rattle.base.specs.{Words.List, Words.[], Words.ℕ, Words.Bytes, Answer.Clear}
 use Rattle.term.specs.{Term.symmetric, Term.asymmetric, Term.Form, Term.hash, Term.encryption, Term.Head, Term.make, Term.Term, Term.node, Term.Part, Reduce.op, Step.Step, Step.Deducible, Step.Undoes}
 use Rattle.submission.specs.{Record.terms, Record.kind_at, Record.x_at, Record.y_at, Record.rule_at, Record.q_at, Record.term, Check.rows1to4}
 use Rattle.derivation.specs.Step.{first_premise, concluded, Premise, StepFits}

@@ -1,5 +1,6 @@
 -- What is promised of guesses that are already known: document 02, A5.
-use Rattle.base.specs.{Words.◌≡◌, Words.◌↔◌, Words.List, Words.ℕ, Words.◌≤◌, Words.◌<◌, Words.get_or, Words.Bytes, Answer.done, Answer.refused}
+use Rattle.std.specs.Prelude.{◌≡◌, ◌↔◌, ◌≤◌, ◌<◌}
+use Rattle.base.specs.{Words.List, Words.ℕ, Words.get_or, Words.Bytes, Answer.done, Answer.refused}
 use Rattle.term.specs.{Term.is_key, Term.inverse, Term.void, Step.Deducible}
 use Rattle.submission.specs.{Record.entries, Record.steps, Record.guess, Record.way_at, Record.term, Record.InKnowledge, Check.Target, Check.verifier, Check.derived, Check.claims}
 use Rattle.derivation.specs.Step.{concluded, written}

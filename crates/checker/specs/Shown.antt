@@ -1,5 +1,6 @@
 -- What is promised of a deduction that is shown, where the checker reads it and where it is condition 3's: document 02, A7.
-use Rattle.base.specs.{Words.◌≡◌, Words.◌⊎◌, Words.◌↔◌, Words.List, Words.ℕ, Words.suc, Words.◌≤◌, Words.Bytes, Answer.Answer, Answer.done, Answer.refused, Answer.Clear, Answer.Answers}
+use Rattle.std.specs.Prelude.{◌≡◌, ◌⊎◌, ◌↔◌, ◌≤◌}
+use Rattle.base.specs.{Words.List, Words.ℕ, Words.suc, Words.Bytes, Answer.Answer, Answer.done, Answer.refused, Answer.Clear, Answer.Answers}
 use Rattle.term.specs.{Term.Term, Step.Deducible}
 use Rattle.submission.specs.{Record.p_at, Record.second_at, Record.verifying, Record.InKnowledge, Body.bodies, Body.body_at, Body.submission_of, Check.verifier, Check.claims, Check.rows1to4}
 use Rattle.derivation.specs.Step.{Premise, rows6and7}

@@ -1,5 +1,6 @@
 -- What is promised of stale names: document 02, A3, "Stale wrong guesses".
-use Rattle.base.specs.{Words.◌≡◌, Words.◌↔◌, Words.List, Words.ℕ, Words.Bytes, Answer.Answer, Answer.done, Answer.refused, Answer.Clear, Answer.Answers}
+use Rattle.std.specs.Prelude.{◌≡◌, ◌↔◌}
+use Rattle.base.specs.{Words.List, Words.ℕ, Words.Bytes, Answer.Answer, Answer.done, Answer.refused, Answer.Clear, Answer.Answers}
 use Rattle.submission.specs.Record.{guess, name_at}
 use Rattle.machine.specs.{Run.StaleName, Run.signal, Run.program_rows, Computed.run_answer}
 use Rattle.conditions.specs.Demand.{WrongGuess, Demand3Taken}

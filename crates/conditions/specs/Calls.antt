@@ -1,5 +1,6 @@
 -- What the call `check` promises: its verdict, and document 01's register program on the page.
-use Rattle.base.specs.{Words.◌≡◌, Words.true, Words.false, Words.ite, Words.cond, Words.List, Words.Option, Words.none, Words.some, Words.ℕ, Words.eqb, Words.length, Words.first, Words.listed, Answer.Answer, Answer.done, Answer.refused, Answer.Writes}
+use Rattle.std.specs.Prelude.{◌≡◌}
+use Rattle.base.specs.{Words.true, Words.false, Words.ite, Words.cond, Words.List, Words.Option, Words.none, Words.some, Words.ℕ, Words.eqb, Words.length, Words.first, Words.listed, Answer.Answer, Answer.done, Answer.refused, Answer.Writes}
 use Rattle.term.specs.{Number.has_one, Computed.term?}
 use Rattle.submission.specs.{Record.entries, Record.steps, Record.entry_at, Record.term, Record.rule_at, Record.p_at, Record.q_at, Record.conclusion_at, Record.verifying, Record.way_at, Record.companion, Check.Way, Check.way_of, Check.Operand, Check.verifying_result, Check.companion_result, Check.lowest_conclusion, Check.lowest_companion, Check.guess_register, Check.given_register, Check.Target, Check.knowledge_step, Check.row}
 use Rattle.derivation.specs.Step.{holds_term, written}

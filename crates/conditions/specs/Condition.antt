@@ -1,5 +1,6 @@
 -- The five conditions, and the rows that checking tries, as propositions about terms: document 01, 'The five conditions' and 'Verdicts'.
-use Rattle.base.specs.{Words.◌≡◌, Words.◌⊎◌, Words.◌↔◌, Words.List, Words.[], Words.◌∷◌, Words.◌++◌, Words.Option, Words.none, Words.some, Words.ℕ, Words.◌<◌, Answer.numbered, Answer.row11, Answer.Clear}
+use Rattle.std.specs.Prelude.{◌≡◌, ◌⊎◌, ◌↔◌, ◌∷◌, ◌++◌, ◌<◌}
+use Rattle.base.specs.{Words.List, Words.[], Words.Option, Words.none, Words.some, Words.ℕ, Answer.numbered, Answer.row11, Answer.Clear}
 use Rattle.term.specs.{Term.Term, Term.is_key, Term.inverse, Step.Deducible, Step.Undoes}
 use Rattle.submission.specs.{Record.steps, Record.guess, Record.verifying, Record.way_at, Record.companion, Record.term, Record.InKnowledge, Check.Way, Check.another_step, Check.at_start, Check.inverse_key, Check.guess_derived, Check.inverse_derived, Check.way_of, Check.Target, Check.the_guess, Check.its_inverse, Check.Claims, Check.verifier, Check.derived, Check.claims, Check.knowledge_step, Check.rows1to5}
 use Rattle.derivation.specs.Step.{rule, first_premise, second_premise, concluded, Premise, StepFits, Known, rows6and7}

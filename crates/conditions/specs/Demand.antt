@@ -1,5 +1,6 @@
 -- Demands 2 and 3. What the definitions promise; the contracts of the calls say that the code answers what they give.
-use Rattle.base.specs.{Words.◌≡◌, Words.◌↔◌, Words.List, Words.ℕ, Words.◌≤◌, Words.length, Words.take, Words.drop, Words.Bytes, Answer.done, Answer.page_after}
+use Rattle.std.specs.Prelude.{◌≡◌, ◌↔◌, ◌≤◌}
+use Rattle.base.specs.{Words.List, Words.ℕ, Words.length, Words.take, Words.drop, Words.Bytes, Answer.done, Answer.page_after}
 use Rattle.term.specs.Term.{Fresh}
 use Rattle.submission.specs.Record.{steps, guess, name_at, InKnowledge, guessed}
 use Rattle.program.specs.Program.{bytes_of, program_length}

@@ -1,5 +1,6 @@
 -- What deducible answers: document 01, 'Dolev-Yao steps' and 'Verdicts'.
-use Rattle.base.specs.{Words.◌≡◌, Words.◌⊎◌, Words.List, Words.[], Words.◌∷◌, Words.◌++◌, Words.ℕ, Words.◌≤◌, Answer.numbered}
+use Rattle.std.specs.Prelude.{◌≡◌, ◌⊎◌, ◌∷◌, ◌++◌, ◌≤◌}
+use Rattle.base.specs.{Words.List, Words.[], Words.ℕ, Answer.numbered}
 use Rattle.term.specs.Step.{Deducible}
 use Rattle.submission.specs.{Record.terms, Record.term, Record.InKnowledge, Check.rows1to4}
 

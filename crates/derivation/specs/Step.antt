@@ -1,5 +1,6 @@
 -- The steps of a derivation, rows 6 and 7 of the table of verdicts, and the registers' terms: document 01, 'Dolev-Yao steps' and 'Verdicts'.
-use Rattle.base.specs.{Words.◌≡◌, Words.◌⊎◌, Words.Bool, Words.true, Words.false, Words.◌&&◌, Words.◌||◌, Words.not, Words.cond, Words.List, Words.ℕ, Words.◌+◌, Words.◌-◌, Words.◌<◌, Words.eqb, Words.ltb, Answer.numbered}
+use Rattle.std.specs.Prelude.{◌≡◌, ◌⊎◌, ◌&&◌, ◌||◌, ◌+◌, ◌-◌, ◌<◌}
+use Rattle.base.specs.{Words.Bool, Words.true, Words.false, Words.not, Words.cond, Words.List, Words.ℕ, Words.eqb, Words.ltb, Answer.numbered}
 use Rattle.term.specs.{Term.Head, Term.Term, Number.rules, Number.head_of, Number.has_one, Step.Step}
 use Rattle.submission.specs.{Record.terms, Record.entries, Record.steps, Record.entry_at, Record.rule_at, Record.p_at, Record.q_at, Record.second_for, Record.second_at, Record.conclusion_at, Record.guess, Record.term, Record.InKnowledge, Check.Claims, Check.verifier, Check.derived, Check.claims}
 

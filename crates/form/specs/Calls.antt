@@ -1,5 +1,6 @@
 -- What the call `write` promises: its answer, and the submission on the page.
-use Rattle.base.specs.{declared.Answer.Answer as AnswerGiven, Words.◌≡◌, Words.List, Words.ℕ, Words.length, Answer.answer_of, Answer.Writes}
+use Rattle.std.specs.Prelude.{◌≡◌}
+use Rattle.base.specs.{declared.Answer.Answer as AnswerGiven, Words.List, Words.ℕ, Words.length, Answer.answer_of, Answer.Writes}
 use Rattle.submission.specs.Body.{Bodies, submission_of}
 use Rattle.form.specs.Computed.{write_answer}
 

@@ -1,5 +1,6 @@
 -- What the code's requirements mean in document 02's terms.
-use Rattle.base.specs.Words.{◌≡◌, ◌*◌, ◌/◌, ◌≤◌, false, length}
+use Rattle.std.specs.Prelude.{◌≡◌, ◌*◌, ◌/◌, ◌≤◌}
+use Rattle.base.specs.Words.{false, length}
 use Rattle.base.specs.Computed.{any, passes}
 use Rattle.submission.specs.{Body.Bodies, Body.records, Computed.check_limits}
 use Rattle.form.specs.Computed.{ragged}

@@ -1,5 +1,6 @@
 -- The answer of writing; that it is as the rows say is proved: `write_exact`.
-use Rattle.base.specs.{Words.Bool, Words.not, Words.ℕ, Words.◌%◌, Words.eqb, Words.length, Answer.Answer, Answer.done, Computed.any, Computed.fails_if, Computed.check_room, Computed.and_then, Computed.answered}
+use Rattle.std.specs.Prelude.{◌%◌}
+use Rattle.base.specs.{Words.Bool, Words.not, Words.ℕ, Words.eqb, Words.length, Answer.Answer, Answer.done, Computed.any, Computed.fails_if, Computed.check_room, Computed.and_then, Computed.answered}
 use Rattle.submission.specs.{Record.width, Body.Bodies, Body.body, Body.records, Body.submission_of, Computed.check_limits}
 
 -- 14 ragged: "a body that isn't whole records"

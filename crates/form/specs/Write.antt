@@ -1,5 +1,6 @@
 -- Writing a submission from its four bodies: document 02, A1.
-use Rattle.base.specs.{Words.◌≡◌, Words.List, Words.[], Words.◌∷◌, Words.ℕ, Words.◌*◌, Words.◌<◌, Words.◌≤◌, Words.length, Words.Bytes, Answer.done, Answer.numbered, Answer.row11, Answer.Clear}
+use Rattle.std.specs.Prelude.{◌≡◌, ◌∷◌, ◌*◌, ◌<◌, ◌≤◌}
+use Rattle.base.specs.{Words.List, Words.[], Words.ℕ, Words.length, Words.Bytes, Answer.done, Answer.numbered, Answer.row11, Answer.Clear}
 use Rattle.submission.specs.{Record.width, Body.Bodies, Body.body, Body.records, Body.bodies_of, Body.submission_of, Check.row2, Check.rows1and2}
 use Rattle.form.specs.Computed.{write_answer}
 

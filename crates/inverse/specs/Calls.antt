@@ -1,5 +1,6 @@
 -- What the call `inverses` promises: its answer, and the inverses on the page.
-use Rattle.base.specs.{declared.Answer.Answer as AnswerGiven, Words.◌≡◌, Words.List, Words.ℕ, Words.length, Answer.answer_of, Answer.Writes}
+use Rattle.std.specs.Prelude.{◌≡◌}
+use Rattle.base.specs.{declared.Answer.Answer as AnswerGiven, Words.List, Words.ℕ, Words.length, Answer.answer_of, Answer.Writes}
 use Rattle.inverse.specs.Computed.{inverses_of, inverses_answer}
 
 -- the answer r and the page afterwards: the answer of the call, and where it is done a byte for each term

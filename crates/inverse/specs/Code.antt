@@ -1,5 +1,6 @@
 -- What the code's arrays mean.
-use Rattle.base.specs.Words.{◌≡◌, ◌⊎◌, true, false, cond, List, ℕ, ◌≤◌, ◌<◌, length, get_or}
+use Rattle.std.specs.Prelude.{◌≡◌, ◌⊎◌, ◌≤◌, ◌<◌}
+use Rattle.base.specs.Words.{true, false, cond, List, ℕ, length, get_or}
 use Rattle.term.specs.{Term.asymmetric, Term.is_key_for, Number.shape_of}
 use Rattle.submission.specs.{Record.terms, Record.kind_at, Record.y_at, Computed.are_inverse}
 use Rattle.inverse.specs.Computed.{inverse_of}

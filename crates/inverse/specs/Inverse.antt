@@ -1,5 +1,6 @@
 -- The inverses of the listed terms, on a page: document 02, A4.
-use Rattle.base.specs.{Words.◌≡◌, Words.◌⊎◌, Words.◌↔◌, Words.List, Words.[], Words.◌∷◌, Words.◌++◌, Words.ℕ, Words.◌<◌, Words.length, Words.byte, Words.Bytes, Answer.row11, Answer.Clear}
+use Rattle.std.specs.Prelude.{◌≡◌, ◌⊎◌, ◌↔◌, ◌∷◌, ◌++◌, ◌<◌}
+use Rattle.base.specs.{Words.List, Words.[], Words.ℕ, Words.length, Words.byte, Words.Bytes, Answer.row11, Answer.Clear}
 use Rattle.term.specs.Term.{asymmetric, is_key, Match}
 use Rattle.submission.specs.{Record.terms, Record.term, Check.rows1to4}
 use Rattle.inverse.specs.Computed.{inverses_of}

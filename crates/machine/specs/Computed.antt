@@ -1,5 +1,6 @@
 -- What run answers, computed: that it answers as the rows and the signal say is proved, `run_exact`.
-use Rattle.base.specs.{Words.Bool, Words.◌&&◌, Words.not, Words.List, Words.ℕ, Words.eqb, Answer.Answer, Answer.done, Computed.fails_if, Computed.and_then, Computed.answered}
+use Rattle.std.specs.Prelude.{◌&&◌}
+use Rattle.base.specs.{Words.Bool, Words.not, Words.List, Words.ℕ, Words.eqb, Answer.Answer, Answer.done, Computed.fails_if, Computed.and_then, Computed.answered}
 use Rattle.submission.specs.{Record.guess, Record.name_at, Record.guessed, Computed.is_stale, Computed.checks1to5}
 use Rattle.program.specs.Computed.{bad_program}
 use Rattle.machine.specs.Run.{signal}

@@ -1,5 +1,6 @@
 -- The machine: document 01, 'Machine'. "Run takes a submission, a 16-bit name and a program."
-use Rattle.base.specs.{Words.◌≡◌, Words.Bool, Words.true, Words.false, Words.cond, Words.ite, Words.List, Words.[], Words.◌∷◌, Words.◌++◌, Words.Option, Words.none, Words.some, Words.ℕ, Words.get_or, Words.grow, Words.listed, Words.byte, Answer.numbered}
+use Rattle.std.specs.Prelude.{◌≡◌, ◌∷◌, ◌++◌}
+use Rattle.base.specs.{Words.Bool, Words.true, Words.false, Words.cond, Words.ite, Words.List, Words.[], Words.Option, Words.none, Words.some, Words.ℕ, Words.get_or, Words.grow, Words.listed, Words.byte, Answer.numbered}
 use Rattle.term.specs.{Term.asymmetric, Term.Term, Term.Stale, Computed.term?, Term.void, Reduce.op, Computed.match?, Number.head_of, Term.Relation, Term.equal, Term.inverses}
 use Rattle.submission.specs.{Record.entries, Record.entry_at, Record.guess, Record.name_at, Record.term, Record.InKnowledge, Record.guessed, Check.rows1to5}
 use Rattle.program.specs.Program.{relation_of, Instruction, instruction_at, test_at, operand, ProgramFits}

@@ -1,5 +1,6 @@
 -- Check 13 as a test; what it says is proved: `program_iff`.
-use Rattle.base.specs.{Words.Bool, Words.true, Words.◌&&◌, Words.◌||◌, Words.not, Words.cond, Words.List, Words.none, Words.some, Words.ℕ, Words.◌+◌, Words.eqb, Words.ltb, Words.length, Words.byte, Computed.any}
+use Rattle.std.specs.Prelude.{◌&&◌, ◌||◌, ◌+◌}
+use Rattle.base.specs.{Words.Bool, Words.true, Words.not, Words.cond, Words.List, Words.none, Words.some, Words.ℕ, Words.eqb, Words.ltb, Words.length, Words.byte, Computed.any}
 use Rattle.term.specs.{Number.has_one, Computed.is_rule}
 use Rattle.submission.specs.Record.{entries}
 use Rattle.program.specs.Program.{row_of, relation_of, Instruction, program_length, instruction_at, test_at}

@@ -1,5 +1,6 @@
 -- Register programs: their tests, instructions and bytes, and what row 13 asks of them. Document 01, 'The register program' and 'Verdicts'.
-use Rattle.base.specs.{Words.◌≡◌, Words.Bool, Words.true, Words.false, Words.cond, Words.List, Words.[], Words.◌∷◌, Words.◌++◌, Words.Option, Words.none, Words.some, Words.ℕ, Words.◌+◌, Words.◌*◌, Words.◌<◌, Words.◌≤◌, Words.eqb, Words.length, Words.byte}
+use Rattle.std.specs.Prelude.{◌≡◌, ◌∷◌, ◌++◌, ◌+◌, ◌*◌, ◌<◌, ◌≤◌}
+use Rattle.base.specs.{Words.Bool, Words.true, Words.false, Words.cond, Words.List, Words.[], Words.Option, Words.none, Words.some, Words.ℕ, Words.eqb, Words.length, Words.byte}
 use Rattle.term.specs.{Term.Relation, Term.equal, Term.inverses, Number.rules, Number.has_one}
 use Rattle.submission.specs.Record.{entries}
 

@@ -1,5 +1,6 @@
 -- What the call `read_back` promises: its answer, and the two bodies on the page.
-use Rattle.base.specs.{declared.Answer.Answer as AnswerGiven, Words.◌≡◌, Words.List, Words.ℕ, Words.length, Answer.answer_of, Answer.Writes}
+use Rattle.std.specs.Prelude.{◌≡◌}
+use Rattle.base.specs.{declared.Answer.Answer as AnswerGiven, Words.List, Words.ℕ, Words.length, Answer.answer_of, Answer.Writes}
 use Rattle.readback.specs.{ReadBack.bodies_read, Computed.read_back_answer}
 
 -- the answer r and the page afterwards: the answer of reading back, and where it is done the derivation and the claim

@@ -1,5 +1,6 @@
 -- What the code's arrays and requirements mean.
-use Rattle.base.specs.{Words.◌≡◌, Words.false, Words.none, Words.List, Words.ℕ, Words.◌<◌, Words.length, Words.get_or, Words.first, Words.byte}
+use Rattle.std.specs.Prelude.{◌≡◌, ◌<◌}
+use Rattle.base.specs.{Words.false, Words.none, Words.List, Words.ℕ, Words.length, Words.get_or, Words.first, Words.byte}
 use Rattle.submission.specs.{Record.terms, Code.SubmissionRead}
 use Rattle.derivation.specs.Step.{written}
 use Rattle.program.specs.{Program.test_at, Computed.bad_program}

@@ -1,5 +1,6 @@
 -- The answer of reading back, computed; that it is as the rows say is proved: `read_back_exact`.
-use Rattle.base.specs.{Words.Bool, Words.◌&&◌, Words.◌||◌, Words.not, Words.List, Words.ℕ, Words.eqb, Words.ltb, Words.first, Words.byte, Answer.Answer, Answer.done, Computed.any, Computed.Check, Computed.fails_at, Computed.fails_if, Computed.check_room, Computed.and_then, Computed.answered}
+use Rattle.std.specs.Prelude.{◌&&◌, ◌||◌}
+use Rattle.base.specs.{Words.Bool, Words.not, Words.List, Words.ℕ, Words.eqb, Words.ltb, Words.first, Words.byte, Answer.Answer, Answer.done, Computed.any, Computed.Check, Computed.fails_at, Computed.fails_if, Computed.check_room, Computed.and_then, Computed.answered}
 use Rattle.submission.specs.{Record.terms, Record.entries, Computed.checks1to5}
 use Rattle.derivation.specs.Step.{written}
 use Rattle.program.specs.{Program.Instruction, Program.test_at, Computed.bad_program}

@@ -1,5 +1,6 @@
 -- What is promised of reading back: document 02, A6.
-use Rattle.base.specs.{Words.◌≡◌, Words.List, Words.ℕ, Words.◌≤◌, Words.◌<◌, Words.length, Words.byte, Words.Bytes, Answer.done, Answer.Clear}
+use Rattle.std.specs.Prelude.{◌≡◌, ◌≤◌, ◌<◌}
+use Rattle.base.specs.{Words.List, Words.ℕ, Words.length, Words.byte, Words.Bytes, Answer.done, Answer.Clear}
 use Rattle.submission.specs.{Record.steps, Record.rule_at, Record.guess, Body.bodies, Body.body_at, Body.submission_of, Check.rows1to4, Check.rows1to5}
 use Rattle.derivation.specs.Step.{first_premise, second_premise, concluded, StepFits, written}
 use Rattle.program.specs.Program.{instruction_at, operand, bytes_of}

@@ -1,5 +1,6 @@
 -- From a program back to its derivation and its claim: document 02, A6.
-use Rattle.base.specs.{Words.◌≡◌, Words.◌⊎◌, Words.Bool, Words.true, Words.false, Words.ite, Words.cond, Words.List, Words.[], Words.◌∷◌, Words.◌++◌, Words.Option, Words.none, Words.some, Words.ℕ, Words.zero, Words.suc, Words.◌+◌, Words.◌-◌, Words.◌*◌, Words.◌<◌, Words.eqb, Words.ltb, Words.first, Words.byte, Answer.numbered, Answer.row11}
+use Rattle.std.specs.Prelude.{◌≡◌, ◌⊎◌, ◌∷◌, ◌++◌, ◌+◌, ◌-◌, ◌*◌, ◌<◌}
+use Rattle.base.specs.{Words.Bool, Words.true, Words.false, Words.ite, Words.cond, Words.List, Words.[], Words.Option, Words.none, Words.some, Words.ℕ, Words.zero, Words.suc, Words.eqb, Words.ltb, Words.first, Words.byte, Answer.numbered, Answer.row11}
 use Rattle.term.specs.{Term.Relation, Term.equal, Term.inverses, Number.has_one, Computed.term?}
 use Rattle.submission.specs.Record.{terms, entries, guess, term}
 use Rattle.submission.specs.Check.{Way, another_step, at_start, inverse_key, guess_derived, inverse_derived, Range, step_number, term_number, zero_only, step_or_knowledge, knowledge_step, row}

@@ -1,5 +1,6 @@
 -- A submission's four bodies, and the submission that has them: document 01, 'The submission', and document 02, A1.
-use Rattle.base.specs.Words.{List, [], ◌∷◌, ◌++◌, ℕ, ◌*◌, ◌/◌, ◌%◌, length, get_or, take, drop}
+use Rattle.std.specs.Prelude.{◌∷◌, ◌++◌, ◌*◌, ◌/◌, ◌%◌}
+use Rattle.base.specs.Words.{List, [], ℕ, length, get_or, take, drop}
 use Rattle.submission.specs.Record.{letter, count, width, start_of, start}
 
 -- "the terms, the knowledge, the derivation and the claim separately"

@@ -1,5 +1,6 @@
 -- The table of ways, and rows 1 to 5 of the table of verdicts: document 01, 'The submission' and 'Verdicts'.
-use Rattle.base.specs.{Words.◌≡◌, Words.◌⊎◌, Words.Bool, Words.true, Words.false, Words.cond, Words.List, Words.[], Words.◌∷◌, Words.◌++◌, Words.Option, Words.none, Words.some, Words.ℕ, Words.◌<◌, Words.◌≤◌, Words.eqb, Words.length, Words.take, Answer.numbered}
+use Rattle.std.specs.Prelude.{◌≡◌, ◌⊎◌, ◌∷◌, ◌++◌, ◌<◌, ◌≤◌}
+use Rattle.base.specs.{Words.Bool, Words.true, Words.false, Words.cond, Words.List, Words.[], Words.Option, Words.none, Words.some, Words.ℕ, Words.eqb, Words.length, Words.take, Answer.numbered}
 use Rattle.term.specs.{Term.Kind, Term.asymmetric, Term.Second, Term.absent, Term.anything, Term.key_for, Term.second, Term.Shape, Term.atomic, Term.compound, Term.is_key_for, Term.Relation, Term.equal, Term.inverses, Number.shape_of}
 use Rattle.submission.specs.Record.{count, start, least, most, terms, entries, steps, kind_at, x_at, y_at, entry_at, guess, verifying, way_at, companion}
 use Rattle.submission.specs.Body.{contents}

@@ -1,5 +1,6 @@
 -- Checks 1 to 5 and tests of terms; what they say is proved: `tells_1_to_5`, `inverse_iff`, `says_stale`.
-use Rattle.base.specs.{Words.Bool, Words.true, Words.false, Words.◌&&◌, Words.◌||◌, Words.not, Words.cond, Words.List, Words.Option, Words.none, Words.some, Words.ℕ, Words.◌+◌, Words.◌*◌, Words.eqb, Words.ltb, Words.length, Words.first, Words.byte, Computed.any, Computed.Check, Computed.fails_at, Computed.fails_if, Computed.and_then}
+use Rattle.std.specs.Prelude.{◌&&◌, ◌||◌, ◌+◌, ◌*◌}
+use Rattle.base.specs.{Words.Bool, Words.true, Words.false, Words.not, Words.cond, Words.List, Words.Option, Words.none, Words.some, Words.ℕ, Words.eqb, Words.ltb, Words.length, Words.first, Words.byte, Computed.any, Computed.Check, Computed.fails_at, Computed.fails_if, Computed.and_then}
 use Rattle.term.specs.{Term.asymmetric, Term.is_key_for, Term.second, Term.unary, Term.Shape, Term.atomic, Term.compound, Term.Term, Term.inverse, Number.shape_of, Computed.takes, Computed.is_atomic, Computed.inverse_kinds, Computed.is_part}
 use Rattle.submission.specs.{Record.letter, Record.count, Record.start, Record.least, Record.most, Record.terms, Record.entries, Record.steps, Record.kind_at, Record.x_at, Record.y_at, Record.entry_at, Record.guess, Record.verifying, Record.way_at, Record.companion, Record.term, Check.Way, Check.way_of, Check.the_guess, Check.its_inverse, Check.Claims, Check.verifier, Check.derived, Check.Range, Check.step_number, Check.term_number, Check.zero_only, Check.step_or_knowledge, Check.knowledge_step, Check.row}
 

@@ -1,5 +1,6 @@
 -- A submission's contents and records: document 01, 'The submission'. "Records count from 0."
-use Rattle.base.specs.{Words.◌≡◌, Words.cond, Words.List, Words.[], Words.◌∷◌, Words.Option, Words.none, Words.some, Words.ℕ, Words.zero, Words.suc, Words.◌+◌, Words.◌*◌, Words.◌<◌, Words.get_or, Words.byte}
+use Rattle.std.specs.Prelude.{◌≡◌, ◌∷◌, ◌+◌, ◌*◌, ◌<◌}
+use Rattle.base.specs.{Words.cond, Words.List, Words.[], Words.Option, Words.none, Words.some, Words.ℕ, Words.zero, Words.suc, Words.get_or, Words.byte}
 use Rattle.term.specs.{Number.has_one, Term.plain, Term.unary, Term.make, Term.Shape, Term.atomic, Term.compound, Term.Term, Term.atom, Term.atom_kind, Number.shape_of, Term.Rec, Term.leaf, Term.branch, Term.decoded, Term.void, Term.second}
 
 -- "four entries of 4 bytes: a letter, a one-byte count, a two-byte start", 0 to 3; "T terms, K knowledge, D derivation, V claim"

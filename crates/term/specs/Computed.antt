@@ -1,6 +1,7 @@
 -- Decisions and tests of what the other files define; their types, or the laws `says_part`, `says_takes_apart` and `says_kinds`, say what
 -- they decide.
-use Rattle.base.specs.Words.{Dec·and, Bool, false, ◌||◌, ◌&&◌, cond, Option, none, some, List, [], ◌∷◌, ℕ, suc, eqb, ltb, ite, true}
+use Rattle.std.specs.Prelude.{◌||◌, ◌&&◌, ◌∷◌}
+use Rattle.base.specs.Words.{Dec·and, Bool, false, cond, Option, none, some, List, [], ℕ, suc, eqb, ltb, ite, true}
 use Rattle.std.proofs.Math.Decide.{ℕ_discrete}
 use Rattle.term.specs.{Term.Kind-discrete, Term.Cipher-discrete, Term.Side-discrete, Term.Form-discrete, Term.Head-discrete, Term.Term-discrete, Term.Shape-discrete, Term.plain, Term.public, Term.private, Term.Cipher, Term.symmetric, Term.asymmetric, Term.Head, Term.Term, Term.atom, Term.node, Term.Shape, Term.atomic, Term.is_key, Term.inverse, Term.Match, Number.kinds, Step.taken_by, Number.rules, Number.head_of, Term.Second, Term.absent, Term.anything, Term.key_for, Term.compound, Term.is_key_for}
 

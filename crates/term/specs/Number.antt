@@ -1,5 +1,6 @@
 -- The numbers of kinds, and the numbers and words of rules: document 01, 'Terms' and the table of 'Dolev-Yao steps', and A2. No other place lists them.
-use Rattle.base.specs.Words.{Bool, List, [], ◌∷◌, map, get_elem?, Option, none, ℕ, zero, suc, length, get_or}
+use Rattle.std.specs.Prelude.{◌∷◌}
+use Rattle.base.specs.Words.{Bool, List, [], map, get_elem?, Option, none, ℕ, zero, suc, length, get_or}
 use Rattle.term.specs.Term.{plain, public, private, symmetric, asymmetric, left, right, pair, hash, encryption, Shape, atomic, compound, Head, make, part, decrypt, single}
 
 -- "Kinds 1 plain atom, 2 public key, 3 private key .. Kind 4 pair(x, y); 5 enc(x, y) ..; 6 enca(x, y)"; A2: "Add term kind 7, hash(x)"

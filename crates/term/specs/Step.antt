@@ -1,5 +1,6 @@
 -- Dolev-Yao steps over all terms, and finite lists of them: document 01, 'Dolev-Yao steps'.
-use Rattle.base.specs.Words.{◌≡◌, ◌⊎◌, List, [], ◌∷◌, Option, none, some}
+use Rattle.std.specs.Prelude.{◌≡◌, ◌⊎◌, ◌∷◌}
+use Rattle.base.specs.Words.{List, [], Option, none, some}
 use Rattle.term.specs.Term.{pair, encryption, Head, make, part, decrypt, Term, node, second, Operands, Match, pick}
 
 -- The table's rows: the rule h concludes t from the premises p and q. One premise alone counts as both.

@@ -1,5 +1,6 @@
 -- Terms, keys, parts, and records as terms: document 01, 'The submission' and 'The register program'. The numbers of kinds and rules are in `Number`.
-use Rattle.base.specs.Words.{◌≡◌, ◌⊎◌, Bool, true, false, Option, none, some, List, [], ℕ, ite, Holds, get_or, grow}
+use Rattle.std.specs.Prelude.{◌≡◌, ◌⊎◌}
+use Rattle.base.specs.Words.{Bool, true, false, Option, none, some, List, [], ℕ, ite, Holds, get_or, grow}
 
 -- "plain atom", "public key", "private key"
 pub data Kind : Type 0 where

@@ -1,5 +1,6 @@
 -- What the program `verdict` prints, as bytes: document 01, after 'Marked examples'.
-use Rattle.base.specs.{Words.true, Words.false, Words.cond, Words.List, Words.[], Words.◌∷◌, Words.◌++◌, Words.ℕ, Words.zero, Words.suc, Words.◌+◌, Words.◌/◌, Words.◌%◌, Words.ltb, Answer.Answer, Answer.done, Answer.refused}
+use Rattle.std.specs.Prelude.{◌∷◌, ◌++◌, ◌+◌, ◌/◌, ◌%◌}
+use Rattle.base.specs.{Words.true, Words.false, Words.cond, Words.List, Words.[], Words.ℕ, Words.zero, Words.suc, Words.ltb, Answer.Answer, Answer.done, Answer.refused}
 use Rattle.term.specs.Number.{word_of, has_one}
 use Rattle.program.specs.Program.{relation_of, relation_word, Instruction, instruction_at, test_at}
 

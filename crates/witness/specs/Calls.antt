@@ -1,5 +1,6 @@
 -- What the call `deduction` promises: its answer, and the steps on the page.
-use Rattle.base.specs.{Words.◌≡◌, Words.List, Words.[], Words.ℕ, Words.suc, Words.length, Answer.Answer, Answer.done, Answer.Writes}
+use Rattle.std.specs.Prelude.{◌≡◌}
+use Rattle.base.specs.{Words.List, Words.[], Words.ℕ, Words.suc, Words.length, Answer.Answer, Answer.done, Answer.Writes}
 use Rattle.witness.specs.{Deduction.Deduction, Computed.deduction_answer}
 
 -- "Where several such derivations exist, which one is given is free": all that holds of it is `Deduction`

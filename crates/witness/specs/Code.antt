@@ -1,6 +1,6 @@
 -- What the code's steps and arrays mean.
-use Rattle.base.specs.{Words.◌≡◌, Words.◌↔◌, Words.◌⊎◌, Words.true, Words.cond, Words.List, Words.[], Words.◌∷◌, Words.ℕ, Words.◌+◌, Words.◌-◌, Words.◌≤◌, Words.◌<◌, Words.eqb, Words.length, Words.get_or, Words.fours}
-use Rattle.std.specs.Prelude.{set}
+use Rattle.base.specs.{Words.true, Words.cond, Words.List, Words.[], Words.ℕ, Words.eqb, Words.length, Words.get_or, Words.fours}
+use Rattle.std.specs.Prelude.{set, ◌≡◌, ◌↔◌, ◌⊎◌, ◌∷◌, ◌+◌, ◌-◌, ◌≤◌, ◌<◌}
 use Rattle.term.specs.{Term.symmetric, Term.asymmetric, Term.left, Term.right, Term.encryption, Term.part, Term.decrypt, Term.compound, Number.shape_of, Computed.kind_of, Code.rule_of, Code.builder_of}
 use Rattle.submission.specs.Record.{terms, kind_at, x_at, y_at, second_for, term, InKnowledge}
 use Rattle.derivation.specs.declared.Step.{Step}

@@ -1,5 +1,6 @@
 -- The deduction that is shown: document 02, A7.
-use Rattle.base.specs.{Words.◌≡◌, Words.◌⊎◌, Words.List, Words.[], Words.◌∷◌, Words.◌++◌, Words.ℕ, Words.suc, Words.◌+◌, Words.◌*◌, Words.◌<◌, Words.length, Words.byte, Answer.numbered}
+use Rattle.std.specs.Prelude.{◌≡◌, ◌⊎◌, ◌∷◌, ◌++◌, ◌+◌, ◌*◌, ◌<◌}
+use Rattle.base.specs.{Words.List, Words.[], Words.ℕ, Words.suc, Words.length, Words.byte, Answer.numbered}
 use Rattle.term.specs.{Term.Term, Step.Deducible}
 use Rattle.submission.specs.Record.{second_for, term, InKnowledge}
 use Rattle.derivation.specs.Step.{RecordFits}

@@ -1,5 +1,6 @@
 -- What is promised of every deduction that is shown: document 02, A7.
-use Rattle.base.specs.Words.{◌≡◌, List, ℕ, ◌≤◌}
+use Rattle.std.specs.Prelude.{◌≡◌, ◌≤◌}
+use Rattle.base.specs.Words.{List, ℕ}
 use Rattle.term.specs.Step.{Deducible}
 use Rattle.submission.specs.Record.{terms, term, InKnowledge}
 use Rattle.witness.specs.Deduction.{Deduction}
