@@ -1,4 +1,4 @@
--- Demand 1, of every call. Demands 2 and 3 are stated with the conditions.
+-- Demand 1, of every call but `deduction`, of which `Shown` says it. Demands 2 and 3 are stated with the conditions.
 use Rattle.std.specs.Prelude.{◌≡◌, ◌↔◌}
 use Rattle.base.specs.{Words.List, Words.ℕ, Words.length, Words.byte, Words.Bytes, Answer.Answer, Answer.Answers}
 use Rattle.submission.specs.{Record.terms, Record.steps, Body.Bodies, Body.submission_of}

@@ -1,4 +1,4 @@
--- Checks 6 and 7 as tests of term numbers. What they say of terms is in `Step`, by the theorems `Fits-iff`, `says_unfounded` and `tells_6_and_7`.
+-- Checks 6 and 7 as tests of term numbers. What they say of terms is in `Step`, by the theorems `fits_iff`, `says_unfounded` and `tells_6_and_7`.
 use Rattle.std.specs.Prelude.{◌&&◌, ◌||◌}
 use Rattle.base.specs.{Words.Bool, Words.not, Words.cond, Words.List, Words.Option, Words.none, Words.some, Words.ℕ, Words.eqb, Words.ltb, Words.first, Computed.any, Computed.Check, Computed.passes, Computed.fails}
 use Rattle.term.specs.{Term.Cipher, Term.symmetric, Term.asymmetric, Term.Side, Term.left, Term.right, Term.pair, Term.encryption, Term.Head, Term.make, Term.part, Term.decrypt, Term.compound, Computed.kind_of, Computed.is_rule, Number.head_of}

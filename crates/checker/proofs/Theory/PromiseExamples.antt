@@ -58,7 +58,7 @@ shown e n name g a l t page f =
     let p : KeptPromise s page n (page_after (check_answer s (length page)) (bytes_of (program s)) page) = demand_3 s page b n ((accepted_iff s b (length page) n).1 (m, w, c, omega arith)) in
     (p, z, p.wrong name z)
 
--- one example for each of ways a, b and c; WPA2, the four_way handshake, and a hash whose y of 0 is no part; ways k and j, and j with 255
+-- one example for each of ways a, b and c; WPA2, the four-way handshake, and a hash whose y of 0 is no part; ways k and j, and j with 255
 pub examples_shown :
     Shown m3 3 60000 × Shown m1 1 3 × Shown m8 1 9 × Shown wpa2 1 7 × Shown four_way 9 7 × Shown hashed 1 9
     × Shown guess_shown 2 9 × Shown inverse_shown 1 6 × Shown inverse_known 0 6
