@@ -66,6 +66,8 @@ const KEPT: usize = 64;
 
 pub struct Source {
     random: Random,
+    /// For the sheets alone, so that all else of a seed is the same with and without them.
+    sheets: Random,
     kept: Vec<Bodies>,
 }
 
@@ -73,7 +75,7 @@ impl Source {
     pub fn new(seed: u64) -> Source {
         let mut random = Random::new(seed);
         let kept = (0..KEPT).map(|_| fresh(&mut random)).collect();
-        Source { random, kept }
+        Source { random, sheets: Random::new(!seed), kept }
     }
 
     pub fn next_input(&mut self) -> Input {
@@ -94,7 +96,7 @@ impl Source {
             forms: self.forms(&submission),
             inverse_pages: self.inverse_pages(&submission),
             sent: sent::sent(&mut self.random, &submission, own.as_deref()),
-            sheets: sheet::sheets(&mut self.random, &submission),
+            sheets: sheet::sheets(&mut self.sheets, &submission),
             submission,
         }
     }
