@@ -77,4 +77,4 @@ module _ {s : List ℕ} {c : Claim} (h : IsClaim s c) (x : RowRead) (e : row_is 
   pub by_target : {d : Check} {t : TargetRead} → x.claims ≡ Derived t → d ≡ fails_if (not (is_given s (target_is t))) 16 0 → d ≡ check_met s (claims s)
   by_target {t = t} f g = let k : claims s ≡ derived (target_is t) = claims_are ∙ ap claims_is f in rw k g
 
-pub ruleset claim-tests = (claims_verifier, by_verifier, by_target)
+pub ruleset claim_tests = (claims_verifier, by_verifier, by_target)

@@ -157,7 +157,7 @@ module _ {s : List ℕ} (h : Acceptable s) {c : Claim} (k : IsClaim s c) (t : Ta
   pub step_few : (c.step ≡ knowledge_step → ⊥) → c.step < 128
   step_few d = ⊎_elim (λ l. rw k.step (one_of_steps h _ l)) (λ e. absurd (d (k.step ∙ e))) (given_range claim (target_is t) held)
 
-pub ruleset given-registers = (acceptable_limited, entry_named, step_named, step_few)
+pub ruleset given_registers = (acceptable_limited, entry_named, step_named, step_few)
 
 pub ruleset instructions = (one_register, two_registers, acceptable_limited)
 
