@@ -3,4 +3,4 @@ use Rattle.form.proofs.WriteReturns.{contents_put}
 use Rattle.form.proofs.put_contents.Goals as goal
 
 pub returns : goal.returns
-returns c = contents_put _ _ _ _ c.requires {-at Start ['', '']-} c.put_contents_entry-at.ensures c.put_contents_entry-at-2.ensures c.put_contents_entry-at-3.ensures c.put_contents_entry.ensures
+returns c = contents_put _ _ _ _ c.requires c.put_contents_entry-at.ensures c.put_contents_entry-at-2.ensures c.put_contents_entry-at-3.ensures c.put_contents_entry.ensures
