@@ -1,5 +1,5 @@
 -- Chains of numbers in two arrays: how they grow by one number, and what a walk along one of them has seen.
-use mathlib.Core.Path.{◌≡◌, sym, ◌∙◌}
+use mathlib.Core.Path.{◌≡◌, sym, ◌∙◌, ap}
 use mathlib.Core.List.{List}
 use mathlib.Core.Logic.{◌⊎◌, inl, inr, ⊎_elim, by_cases}
 use Prim.Native.Nat.{ℕ, ◌+◌, ◌%◌, ◌<◌, ◌≤◌}
@@ -9,18 +9,20 @@ use native.Mathlib.Omega.{arith}
 use lib.ListN.{length, get_or, set, replicate, length-set, length-replicate, get_or-replicate}
 use lib.Seq.{get_or-set_same, get_or-set_other}
 use borrow.Author.Count.{below_more}
-use Rattle.base.specs.Code.{Latest, Chained, Chaining}
+use borrow.Author.Tests.{ne_eqb}
+use Rattle.std.specs.Prelude.{Option as Maybe, Some, None}
+use Rattle.base.specs.Code.{Latest, Chained, Chaining, link_of, byte_of_link}
 use Rattle.base.proofs.Order.{lt_or_ge}
 
 -- ---- one number more
 module _ {c : ℕ → ℕ} {i y : ℕ} where
   latest_here : i < 255 → c i ≡ y → Latest c (i + 1) y i
-  latest_here l e = record { is = inr (omega arith, e); last = λ k u v w. ⊎_elim (λ x. omega arith) (λ x. omega arith) v }
+  latest_here l e = record { is = λ _. (omega arith, e); last = λ k u v w. ⊎_elim (λ x. omega arith) (λ x. omega arith) v }
 
   latest_kept : {b : ℕ} → Latest c i y b → (c i ≡ y → ⊥) → Latest c (i + 1) y b
   latest_kept {b} p d =
       record {
-        is = ⊎_elim (λ x. inl x) (λ x. let l = x.0 in inr (omega arith, x.1)) p.is;
+        is = λ x. let y = p.is x in let l = y.0 in (omega arith, y.1);
         last = below_more (λ k. (b ≡ 255) ⊎ (b < k) → c k ≡ y → ⊥) i p.last (λ u. d);
       }
 
@@ -29,7 +31,7 @@ chaining_none =
     record {
       chained = record { long = length-replicate {A = ℕ} 256 255; is = λ k b. absurd (omega arith) };
       long = length-replicate {A = ℕ} 256 255;
-      is = λ y l. record { is = inl (get_or-replicate {A = ℕ} 256 y 255 0 l); last = λ k u. absurd (omega arith) };
+      is = λ y l. record { is = λ d. absurd (d (get_or-replicate {A = ℕ} 256 y 255 0 l)); last = λ k u. absurd (omega arith) };
     }
 
 module _ {c : ℕ → ℕ} {before latest : List ℕ} {i : ℕ} (p : Chaining c i before latest) where
@@ -87,10 +89,10 @@ module _ {c : ℕ → ℕ} {P : ℕ → Type 0} {i y j : ℕ} (p : Walk c P i y 
 
   module _ (d : j ≡ 255 → ⊥) where
     pub walk_below : j < i
-    walk_below = ⊎_elim (λ x. absurd (d x)) (λ x. let l = x.0 in omega (arith, p.within)) p.next.is
+    walk_below = let l = (p.next.is d).0 in omega (arith, p.within)
 
     pub walk_chain : c j ≡ y
-    walk_chain = ⊎_elim (λ x. absurd (d x)) (λ x. x.1) p.next.is
+    walk_chain = (p.next.is d).1
 
     module _ {n w : ℕ} {before : List ℕ} (q : Chained c n before) (m : i ≤ n) (g : w ≡ j) where
       lower : Latest c j y (get_or before w 0)
@@ -109,4 +111,27 @@ module _ {c : ℕ → ℕ} {P : ℕ → Type 0} {i y j : ℕ} (p : Walk c P i y 
 
       -- the numbers fall, and 255 comes last
       pub walk_less : i < 256 → (get_or before w 0 + 1) % 256 < (j + 1) % 256
-      walk_less o = let b = walk_below in ⊎_elim (λ x. omega arith) (λ x. let z = x.0 in omega arith) lower.is
+      walk_less o =
+          let b = walk_below in
+          by_cases (ℕ_discrete (get_or before w 0) 255) (λ x. omega arith) (λ x. let z = (lower.is x).0 in omega arith)
+
+-- ---- the walk by the numbers as they are handed out: none is 255, and no number is
+abbrev pub Linked : (ℕ → ℕ) → (ℕ → Type 0) → ℕ → ℕ → Maybe ℕ → Type 0
+Linked c P i y o = Walk c P i y (byte_of_link o) × (o ≡ Some 255 → ⊥)
+
+pub link_back : (n : ℕ) → byte_of_link (link_of n) ≡ n
+link_back n = by_cases (ℕ_discrete n 255) (λ e. rw e) (λ d. rw (ne_eqb _ _ d))
+
+no_link : (n : ℕ) → link_of n ≡ Some 255 → ⊥
+no_link n e = by_cases (ℕ_discrete n 255) (λ h. let z : None ≡ Some 255 = (rw h at e) in cc) (λ d. let z : Some n ≡ Some 255 = (rw (ne_eqb _ _ d) at e) in d cc)
+
+module _ {c : ℕ → ℕ} {P : ℕ → Type 0} {i y : ℕ} where
+  pub linked_of : {n : ℕ} {o : Maybe ℕ} → Walk c P i y n → o ≡ link_of n → Linked c P i y o
+  linked_of {n} p e = (rw (e, link_back) p, λ f. no_link n (sym e ∙ f))
+
+  module _ {o : Maybe ℕ} (p : Linked c P i y o) where
+    pub linked_none : o ≡ None → Walk c P i y 255
+    linked_none e = rw e at p.0
+
+    pub linked_at : {j : ℕ} → o ≡ Some j → Walk c P i y j × (j ≡ 255 → ⊥)
+    linked_at e = (rw e at p.0, λ f. p.1 (e ∙ ap Some f))

@@ -11,6 +11,7 @@ pub mod Overwrite
 pub mod Parts
 pub mod Pigeonhole
 pub mod PutLaws
+pub mod RangeTests
 pub mod RefusalLaws
 pub mod Says
 pub mod Scan

@@ -1,15 +1,18 @@
--- Laws of putting bytes into a buffer: nothing, one byte, one text after the other; and a whole text in a buffer that is long enough.
+-- Laws of putting bytes into a buffer: nothing, one byte, one text after the other, also by a writer; and a whole text in a buffer that is long enough.
 use mathlib.Core.Path.{◌≡◌, refl, sym, ap, ◌∙◌}
 use mathlib.Core.Logic.{⊎_elim}
 use mathlib.Core.List.{List, [], ◌∷◌, ◌++◌}
-use Prim.Native.Nat.{ℕ, suc, ◌+◌, ◌-◌, ◌≤◌, ◌<◌}
-use native.Mathlib.Nat.{add-zero, zero-add, add-suc, suc-add, le_antisymm}
-use native.Mathlib.Numerals.{add-one}
+use Prim.Native.Nat.{ℕ, suc, ◌+◌, ◌-◌, ◌≤◌, ◌<◌, min}
+use borrow.Rule.Slice.PartMut.{put_mid}
+use lib.Seq.{drop-drop}
+use Rattle.std.proofs.Common.{append_assoc}
+use native.Mathlib.Nat.{add-zero, zero-add, add-suc, suc-add}
 use native.Mathlib.Omega.{arith}
-use lib.ListN.{length, get_or, set, take, drop, length-append, length-set, take-append-drop, drop_of_length-le}
-use lib.Seq.{sets, sets-eq, length-sets, set_out, take-append_seam, take-suc, take_all, length-take-le}
+use lib.ListN.{length, set, take, drop, length-append, take-append-drop, drop_of_length-le}
+use lib.Seq.{sets, sets-eq, length-sets, set_out, take-append_seam, take_all, length-take-le}
 use Rattle.base.proofs.Order.{lt_or_ge}
-use Rattle.base.specs.Answer.{Puts}
+use Rattle.base.specs.declared.writer.Writer.{Writer}
+use Rattle.base.specs.Answer.{Puts, Wrote}
 
 -- past the end nothing is stored
 sets_past : (l : List ℕ) (i : ℕ) (vs : List ℕ) → length l ≤ i → sets l i vs ≡ l
@@ -44,8 +47,16 @@ puts_then {a} {b} {c} {xs} {ys} {i} {j} {k} p q =
       place = omega arith;
     }
 
-pub puts_four : {p0 p1 p2 p3 p4 : List ℕ} {i0 i1 i2 i3 i4 a b c d : ℕ} → Puts p0 i0 (a ∷ []) p1 i1 → Puts p1 i1 (b ∷ []) p2 i2 → Puts p2 i2 (c ∷ []) p3 i3 → Puts p3 i3 (d ∷ []) p4 i4 → Puts p0 i0 (a ∷ b ∷ c ∷ d ∷ []) p4 i4
-puts_four l0 l1 l2 l3 = puts_then (puts_then (puts_then l0 l1) l2) l3
+-- a writer that has put nothing, and one that has put one text after the other
+pub wrote_none : {w : Writer} → Wrote w [] w
+wrote_none = record { same = refl; puts = puts_none }
+
+pub wrote_then : {u v w : Writer} {xs ys : List ℕ} → Wrote u xs v → Wrote v ys w → Wrote u (xs ++ ys) w
+wrote_then p q = record { same = q.same ∙ p.same; puts = puts_then p.puts q.puts }
+
+-- a writer of the buffer d, from its start on, and the buffer p when the writer is done
+pub wrote_out : {u w : Writer} {text d p : List ℕ} → Wrote u text w → u.buffer.now ≡ d → u.at ≡ 0 → p ≡ w.buffer.now → Puts d 0 text p w.at
+wrote_out {text = text} a e f g = record { stored = g ∙ a.puts.stored ∙ rw (e, f); place = a.puts.place ∙ rw (e, f) }
 
 -- a text put at the front, in a buffer of any length: what there is room for, and then the buffer's own rest
 pub puts_front : {a b text : List ℕ} {k : ℕ} → Puts a 0 text b k → b ≡ take (length a) text ++ drop (length text) a
@@ -68,37 +79,21 @@ puts_whole {a} {b} {text} {k} p h =
     let l : k ≡ length text = omega (arith, p.place) in
     (l, rw (l, puts_front p, take_all (length a) text h, take-append_seam))
 
--- bytes, one by one: the first i of them stand in b
-pub record Copied (a : List ℕ) (k : ℕ) (bytes : List ℕ) (i : ℕ) (b : List ℕ) : Type 0 where
-  pub is : b ≡ sets a k (take i bytes)
-  pub long : length b ≡ length a
-
-pub copied_none : (a : List ℕ) (k : ℕ) (bytes : List ℕ) → Copied a k bytes 0 a
-copied_none a k bytes = record { is = refl; long = refl }
-
-pub copied_more : {a b : List ℕ} {k i : ℕ} (bytes : List ℕ) (n : ℕ) → Copied a k bytes i b → i < n → n ≤ length bytes → Copied a k bytes (i + 1) (set b (k + i) (get_or bytes i 0))
-copied_more {a} {b} {k} {i} bytes n p h m =
-    let f : length (take i bytes) ≡ i = length-take-le i bytes (omega arith) in
-    record {
-      is = rw (p.is, add-one i, take-suc bytes i 0 (omega arith), sets_append a k (take i bytes) (get_or bytes i 0 ∷ []), f);
-      long = length-set b (k + i) (get_or bytes i 0) ∙ p.long;
-    }
-
-pub copied_all : {a b : List ℕ} {k i : ℕ} (bytes : List ℕ) (n : ℕ) → Copied a k bytes i b → i ≤ n → n ≤ i → b ≡ sets a k (take n bytes)
-copied_all bytes n p l h = rw (le_antisymm h l) p.is
-
--- and the place after them: the buffer has room for all, or for some
-pub puts_all : {a b : List ℕ} (k : ℕ) (bytes : List ℕ) → length bytes < length a - k → b ≡ sets a k (take (length bytes) bytes) → Puts a k bytes b (k + length bytes)
-puts_all {a} {b} k bytes h e = record { stored = e ∙ rw (take_all (length bytes) bytes (omega arith)); place = omega arith }
-
-pub puts_some : {a b : List ℕ} (k : ℕ) (bytes : List ℕ) → k < length a → length a - k ≤ length bytes → b ≡ sets a k (take (length a - k) bytes) → Puts a k bytes b (length b)
-puts_some {a} {b} k bytes l h e =
-    let n = length a - k in
+-- as many of the bytes as there is room for, in the place of as many
+pub puts_room : (a : List ℕ) (i : ℕ) (bytes part : List ℕ) (n k : ℕ) → i < length a → n ≡ min (length bytes) (length a - i) → k ≡ n → part ≡ take n bytes → Puts a i bytes (put_mid i k a part) (i + n)
+puts_room a i bytes part n k h e f g =
     let t = take n bytes in
-    let m : length t ≡ n = length-take-le n bytes h in
-    let f : sets a k bytes ≡ sets a k t =
-    ap (sets a k) (sym (take-append-drop n bytes)) ∙ sets_append a k t (drop n bytes) ∙ sets_past (sets a k t) (k + length t) (drop n bytes) (omega (arith, length-sets a k t)) in
-    record { stored = e ∙ sym f; place = rw e (length-sets a k t ∙ omega arith) }
+    let m : length t ≡ n = length-take-le n bytes (omega arith) in
+    let p : put_mid i k a part ≡ sets a i t =
+    rw (f, g, sets-eq t a i (omega arith), m, append_assoc)
+    (ap (λ (z : List ℕ). take i a ++ (t ++ z)) (drop-drop n i a)) in
+    let r : sets a i t ≡ sets a i bytes =
+    ⊎_elim
+    (λ (l : length a - i < length bytes).
+    sym (ap (sets a i) (sym (take-append-drop n bytes)) ∙ sets_append a i t (drop n bytes) ∙ sets_past (sets a i t) (i + length t) (drop n bytes) (omega (arith, length-sets a i t))))
+    (λ (l : length bytes ≤ length a - i). rw (take_all n bytes (omega arith)))
+    (lt_or_ge (length a - i) (length bytes)) in
+    record { stored = p ∙ r; place = omega arith }
 
 -- what was written is no longer than the buffer
 pub puts_taken : {a b text : List ℕ} {k : ℕ} → Puts a 0 text b k → k ≡ length (take k b)

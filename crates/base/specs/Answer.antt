@@ -1,7 +1,9 @@
 -- What a call answers, promises and leaves on its page, and what the table of verdicts and its order mean: document 01, 'Verdicts'.
 use Rattle.std.specs.Prelude.{◌≡◌, ◌⊎◌, ◌∷◌, ◌++◌, ◌+◌, ◌-◌, ◌<◌, ◌≤◌}
-use Rattle.base.specs.declared.Answer.TheVariants as given
-use Rattle.base.specs.{declared.Answer.Answer as AnswerGiven, Words.List, Words.[], Words.ℕ, Words.min, Words.length, Words.drop, Words.sets}
+use Rattle.std.specs.Prelude.{Result, Ok, Err}
+use Rattle.base.specs.declared.refusal.Fault.{Fault}
+use Rattle.base.specs.declared.refusal.Fault.TheVariants.{Contents, Count, Term, Knowledge, Claim, Step, Unfounded, Reachable, NoSecondWay, Undone, Page, NoSuchTerm, Program, Ragged, Stale, NotShown, OffTable, NoClaim, ShortSheet}
+use Rattle.base.specs.{declared.refusal.Refusal.Refusal, declared.writer.Writer.Writer, Words.List, Words.[], Words.ℕ, Words.min, Words.length, Words.drop, Words.sets}
 
 -- "An acceptance carries N"; deducible's yes and no are 1 and 0, and so is the signal; an acceptance that writes a page "carries their number
 -- unless another count is named", of the bytes written. "Every refusal carries number and place."
@@ -14,10 +16,32 @@ abbrev pub page_after : Answer → List ℕ → List ℕ → List ℕ
 page_after (done n) bytes page = bytes ++ drop (length bytes) page
 page_after (refused number place) bytes page = page
 
--- the answer that a call's enum stands for
-abbrev pub answer_of : AnswerGiven → Answer
-answer_of (given.Done n) = done n
-answer_of (given.Refused number place) = refused number place
+-- the table of verdicts: the numbers of its rows, by their words
+abbrev pub number_of : Fault → ℕ
+number_of Contents = 1
+number_of Count = 2
+number_of Term = 3
+number_of Knowledge = 4
+number_of Claim = 5
+number_of Step = 6
+number_of Unfounded = 7
+number_of Reachable = 8
+number_of NoSecondWay = 9
+number_of Undone = 10
+number_of Page = 11
+number_of NoSuchTerm = 12
+number_of Program = 13
+number_of Ragged = 14
+number_of Stale = 15
+number_of NotShown = 16
+number_of OffTable = 17
+number_of NoClaim = 18
+number_of ShortSheet = 19
+
+-- the answer that a call's result stands for
+abbrev pub answer_of : Result ℕ Refusal → Answer
+answer_of (Ok n) = done n
+answer_of (Err r) = refused (number_of r.fault) r.place
 
 -- a call that writes a page: what it returned says its answer a, and where that is done the bytes written stand on the page
 pub record Writes (Says : Answer → Type 0) (a : Answer) (written page page' : List ℕ) : Type 0 where
@@ -28,6 +52,11 @@ pub record Writes (Says : Answer → Type 0) (a : Answer) (written page page' : 
 pub record Puts (old : List ℕ) (i : ℕ) (bytes new : List ℕ) (j : ℕ) : Type 0 where
   pub stored : new ≡ sets old i bytes
   pub place : j ≡ i + min (length bytes) (length old - i)
+
+-- the same of a writer, which keeps its buffer
+pub record Wrote (old : Writer) (bytes : List ℕ) (new : Writer) : Type 0 where
+  pub same : new.buffer.ghost_name ≡ old.buffer.ghost_name
+  pub puts : Puts old.buffer.now old.at bytes new.buffer.now new.at
 
 -- a row of the table: its number, and what it says of its place
 abbrev pub numbered : ℕ → (ℕ → Type 0) → ℕ → ℕ → Type 0

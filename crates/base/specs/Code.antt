@@ -1,30 +1,30 @@
--- What a stage of the code means in document 01's terms, and notions that only proofs use.
-use Rattle.std.specs.Prelude.{◌≡◌, ◌⊎◌, ◌<◌}
+-- What a check's result means in document 01's terms, and notions that only proofs use.
+use Rattle.std.specs.Prelude.{◌≡◌, ◌⊎◌, ◌<◌, Result, Ok, Err, Option as Maybe, Some, None, nat_eq, if◌then◌else◌}
 use Rattle.base.specs.Words.{Bool, true, false, List, Option, none, some, ℕ, length, get_or}
-use Rattle.base.specs.declared.Stage.{Stage}
-use Rattle.base.specs.declared.Stage.TheVariants.{Passed, Refused}
+use Rattle.base.specs.declared.refusal.Refusal.{Refusal}
+use Rattle.base.specs.Answer.{number_of}
 use Rattle.base.specs.Computed.{Check, passes, fails}
 
--- what a stage says: it passed, or the number and the place of the refusal
-abbrev pub check_of : Stage → Check
-check_of Passed = passes
-check_of (Refused number place) = fails number place
+-- what a check's result says: it passed, or the number and the place of the refusal
+abbrev pub check_of : {T : Type 0} → Result T Refusal → Check
+check_of (Ok x) = passes
+check_of (Err r) = fails (number_of r.fault) r.place
 
 -- a place was found
 abbrev pub is_some : Option ℕ → Bool
 is_some none = false
 is_some (some i) = true
 
--- ---- notes: 1 stands in l at f r for each r below i, and nowhere else
-pub record Noted (f : ℕ → ℕ) (i : ℕ) (l : List ℕ) : Type 0 where
+-- ---- flags: true stands in l at f r for each r below i, and nowhere else
+pub record Flagged (f : ℕ → ℕ) (i : ℕ) (l : List Bool) : Type 0 where
   pub long : length l ≡ 256
-  pub holds : (r : ℕ) → r < i → get_or l (f r) 0 ≡ 1
-  pub only : (n : ℕ) → get_or l n 0 ≡ 1 → (r : ℕ) × (r < i) × (f r ≡ n)
+  pub holds : (r : ℕ) → r < i → get_or l (f r) false ≡ true
+  pub only : (n : ℕ) → get_or l n false ≡ true → (r : ℕ) × (r < i) × (f r ≡ n)
 
 -- ---- chains: c has for each number the byte that it is chained by, or 256 or more where it is in no chain
 -- b is the latest of the first i numbers that is chained by y, and 255 stands for none
 pub record Latest (c : ℕ → ℕ) (i y b : ℕ) : Type 0 where
-  pub is : (b ≡ 255) ⊎ ((b < i) × (c b ≡ y))
+  pub is : (b ≡ 255 → ⊥) → (b < i) × (c b ≡ y)
   pub last : (k : ℕ) → k < i → (b ≡ 255) ⊎ (b < k) → c k ≡ y → ⊥
 
 -- before has, for each of the first n numbers that is in a chain, the latest earlier one of that chain
@@ -37,3 +37,12 @@ pub record Chaining (c : ℕ → ℕ) (n : ℕ) (before latest : List ℕ) : Typ
   pub chained : Chained c n before
   pub long : length latest ≡ 256
   pub is : (y : ℕ) → y < 256 → Latest c n y (get_or latest y 0)
+
+-- a number as the chains keep it, and 255 for none
+abbrev pub link_of : ℕ → Maybe ℕ
+link_of n = if nat_eq n 255 then None else (Some n)
+
+-- and back
+abbrev pub byte_of_link : Maybe ℕ → ℕ
+byte_of_link None = 255
+byte_of_link (Some n) = n

@@ -1,30 +1,48 @@
 // The calls for C, which the static library `checker_c` exports under the same names: an answer is one number. A refusal is
 // number * 65536 + place; what is done is its value.
 ghost use Rattle.std.specs.Prelude.{◌≡◌};
-ghost use Rattle.base.specs.Answer.{answer_of};
+ghost use Rattle.base.specs.Answer.{answer_of, refused};
+ghost use Rattle.conditions.specs.Calls.{verdict_answer};
 ghost use Rattle.submission.specs.Body.{bodies};
 ghost use Rattle.deduction.specs.Computed.{deducible_answer};
 ghost use Rattle.machine.specs.Computed.{run_answer};
 ghost use Rattle.witness.specs.Calls.{DeductionWritten};
 ghost use Rattle.checker.specs.Calls.{encoded, Encoded, EncodedForm, EncodedInverses, EncodedBodies};
 
-use base::Answer;
+use base::Refusal;
+use conditions::Verdict;
+
+// A refusal as one number.
+fn refused(number: u8, place: u16) -> u32
+    ensures { result ≡ encoded (refused number place) }
+{
+    u32::from(number) * 65536 + u32::from(place)
+}
 
 // An answer as one number.
-fn encode(answer: Answer) -> u32
+fn encode(answer: Result<u16, Refusal>) -> u32
     ensures { result ≡ encoded (answer_of answer) }
 {
     match answer {
-        Answer::Done(n) => n as u32,
-        Answer::Refused { number, place } => (number as u32) * 65536 + place as u32,
+        Ok(n) => u32::from(n),
+        Err(refusal) => refused(refusal.fault.number(), refusal.place),
+    }
+}
+
+// A verdict as one number.
+fn encode_verdict(verdict: Verdict) -> u32
+    ensures { result ≡ encoded (verdict_answer verdict) }
+{
+    match verdict {
+        Verdict::Accepted(n) => u32::from(n),
+        Verdict::Refused { number, place } => refused(number, place),
     }
 }
 
 pub fn checker_check(sub: &[u8], page: &mut [u8]) -> u32
     ensures { Encoded sub.now page.old result page.new }
 {
-    let verdict = conditions::check(sub, page);
-    encode(conditions::answer_of(verdict))
+    encode_verdict(conditions::check(sub, page))
 }
 
 pub fn checker_deducible(sub: &[u8], term: u8) -> u32

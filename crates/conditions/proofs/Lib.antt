@@ -1,7 +1,5 @@
 pub mod CheckReturns
-pub mod GivenTests
+pub mod Found
 pub mod PassedFacts
 pub mod ProgramValue
-pub mod SecondWayTests
 pub mod Theory
-pub mod UndoneTests

@@ -5,7 +5,7 @@ use mathlib.Core.List.{List}
 use Prim.Native.Nat.{ℕ, ◌<◌}
 use Rattle.term.specs.Number.{has_one}
 use Rattle.submission.specs.declared.Claim.{Claim}
-use Rattle.base.specs.Computed.{passes, fails, fails_if, fails_at}
+use Rattle.base.specs.Computed.{passes, fails_if, fails_at}
 use Rattle.submission.specs.Code.{Limited, IsClaim}
 use Rattle.submission.specs.Record.{terms, steps, verifying, way_at, second_at}
 use Rattle.submission.specs.Check.{way_of, Target, Claims, verifier, derived, claims}
@@ -59,10 +59,6 @@ pub reachable_is : {s : List ℕ} {c : Claim} {a : Step} {u : ℕ} {r : Bool} �
     r ≡ (is_deducible s (entry_marks s) a.p && is_deducible s (entry_marks s) u) → r ≡ reachable s
 unfolding reachable
 reachable_is k x e f = rw (← k.step, ← x.first, ← (second_is x e)) f
-
--- a check that fails at the verifying step
-pub fails_at_step : {s : List ℕ} {c : Claim} {k : ℕ} (b : Bool) (number : ℕ) → IsClaim s c → k ≡ c.step → b ≡ true → fails number k ≡ fails_if b number (verifying s)
-fails_at_step b number h e f = rw (f, e, h.step)
 
 pub ruleset founded = (founded_read, founded_limited, first_below, second_below, reachable_is)
 

@@ -1,6 +1,5 @@
 // What a claim asks for: conditions 3 to 5, checks 8 to 10 in this order; or check 16.
 ghost use Rattle.std.specs.Prelude.{◌≡◌, ◌&&◌, not};
-ghost use Rattle.submission.specs.Code.{Limited, IsClaim};
 ghost use Rattle.submission.specs.Record.{steps, p_at, way_at, verifying, second_at};
 ghost use Rattle.submission.specs.Computed.{are_inverse};
 ghost use Rattle.submission.specs.Check.{way_of, verifier, claims};
@@ -8,144 +7,188 @@ ghost use Rattle.base.specs.Computed.{fails_if, fails_at};
 ghost use Rattle.base.specs.Code.{check_of};
 ghost use Rattle.derivation.specs.Step.{written};
 ghost use Rattle.derivation.specs.Computed.{is_known};
-ghost use Rattle.derivation.specs.Code.{Lowest};
+ghost use Rattle.derivation.specs.Code.{IsStep, Lowest};
 ghost use Rattle.conditions.specs.Computed.{reachable, is_premise, same_premises, has_second_way, dismantles as dismantles_by, undoes_step, undone, checks8to10, check_met};
-ghost use Rattle.conditions.specs.Code.{Founded, other_way};
+ghost use Rattle.conditions.specs.Code.{Founded as PassedSteps, other_way};
 ghost use Rattle.base.specs.Words.{first};
 
-use crate::given;
-use base::Stage;
-use derivation::Step;
-use submission::{Claim, Claims, Way};
+use base::{Fault, Refusal};
+use derivation::{Derivation, Registers, Step};
+use submission::{Claims, Table, Way};
 use term::rules;
 
-// Condition 3 broken: both premises of the verifying step are deducible from the knowledge, without the guess.
-fn is_reachable(s: &[u8], claim: Claim) -> bool
-    requires founded { Founded s.now }
-    requires s_value { claims s.now ≡ verifier }
-    requires claim { IsClaim s.now claim }
-    ensures { result ≡ reachable s.now }
-{
-    let step = derivation::step_at(s, claim.step);
-    let start = deduction::knowledge_marks(s);
-    deduction::are_deducible(s, start, step.p, derivation::second_of(step))
+// A derivation whose steps passed checks 6 and 7, and its registers.
+#[derive(Clone, Copy)]
+pub struct Founded<'a> {
+    pub derivation: Derivation<'a>,
+    pub registers: &'a Registers,
+    pub ghost founded: { PassedSteps derivation.bytes.now },
+    pub ghost lowest: { Lowest derivation.bytes.now (written derivation.bytes.now (steps derivation.bytes.now)) registers.now.first },
 }
 
-// Check 8.
-fn check_reachable(s: &[u8], claim: Claim) -> Stage
-    requires founded { Founded s.now }
-    requires s_value { claims s.now ≡ verifier }
-    requires claim { IsClaim s.now claim }
-    ensures { check_of result ≡ fails_if (reachable s.now) 8 (verifying s.now) }
-{
-    if is_reachable(s, claim) {
-        return Stage::Refused {
-            number: 8,
-            place: base::wide16(claim.step),
+impl<'a> Founded<'a> {
+    // The verifying step.
+    fn verifying(self) -> Step
+        ensures { IsStep self.entry.derivation.bytes.now self.entry.derivation.claim.step result }
+    {
+        self.derivation.step(self.derivation.claim.step)
+    }
+
+    // Condition 3 broken: both premises of the verifying step are deducible from the knowledge, without the guess.
+    #[tactic(auto, using(crate::proofs::PassedFacts::founded))]
+    fn is_reachable(self) -> bool
+        requires { claims self.derivation.bytes.now ≡ verifier }
+        ensures { result ≡ reachable self.entry.derivation.bytes.now }
+    {
+        let step = self.verifying();
+        let bytes = self.derivation.bytes;
+        let start = deduction::knowledge_marks(bytes);
+        deduction::are_deducible(Table { bytes }, &start, step.p, step.second())
+    }
+
+    // Check 8.
+    fn check_reachable(self) -> Result<(), Refusal>
+        requires { claims self.derivation.bytes.now ≡ verifier }
+        ensures { check_of result ≡ fails_if (reachable self.entry.derivation.bytes.now) 8 (verifying self.entry.derivation.bytes.now) }
+    {
+        if self.is_reachable() {
+            return Err(Fault::Reachable.at(u16::from(self.derivation.claim.step)));
+        }
+        Ok(())
+    }
+
+    // Whether t is a premise of step i.
+    #[tactic(auto, unfolding(submission::specs::Record::second_at))]
+    fn is_premise(self, i: u8, t: u8) -> bool
+        ensures { result ≡ is_premise self.entry.derivation.bytes.now i t }
+    {
+        let step = self.derivation.step(i);
+        t == step.p || t == step.second()
+    }
+
+    // Whether each premise of step i is one of step j.
+    #[tactic(auto, unfolding(submission::specs::Record::second_at))]
+    fn has_premises(self, j: u8, i: u8) -> bool
+        ensures { result ≡ (is_premise self.entry.derivation.bytes.now j (p_at self.entry.derivation.bytes.now i) && is_premise self.entry.derivation.bytes.now j (second_at self.entry.derivation.bytes.now i)) }
+    {
+        let step = self.derivation.step(i);
+        self.is_premise(j, step.p) && self.is_premise(j, step.second())
+    }
+
+    // Whether steps i and j have one premise set.
+    #[tactic(auto, unfolding(crate::specs::Computed::same_premises))]
+    fn same_premises(self, i: u8, j: u8) -> bool
+        ensures { result ≡ same_premises self.entry.derivation.bytes.now i j }
+    {
+        self.has_premises(j, i) && self.has_premises(i, j)
+    }
+
+    // Way a: step j concludes what step i does, by another rule or from another premise set.
+    fn is_other_way(self, i: u8, j: u8) -> bool
+        ensures { result ≡ other_way self.entry.derivation.bytes.now i j }
+    {
+        let a = self.derivation.step(i);
+        let b = self.derivation.step(j);
+        b.conclusion == a.conclusion && (a.rule != b.rule || !self.same_premises(i, j))
+    }
+
+    // Way b: the lowest register of t is one of the knowledge, or the guess's.
+    fn is_known_at_start(self, t: u8) -> bool
+        ensures { result ≡ is_known self.entry.derivation.bytes.now 0 t }
+    {
+        let guess = self.derivation.entries();
+        self.registers
+            .lowest(t)
+            .is_some_and(|register| register <= guess)
+    }
+
+    // Way c: t and j are inverse keys, and a register holds j.
+    fn is_inverse_known(self, t: u8, j: u8) -> bool
+        ensures { result ≡ (are_inverse self.entry.derivation.bytes.now t j && is_known self.entry.derivation.bytes.now (steps self.entry.derivation.bytes.now) j) }
+    {
+        submission::are_inverse(self.derivation.bytes, t, j) && self.registers.lowest(j).is_some()
+    }
+
+    // Condition 4. Ways k and j have no second way, and are not asked.
+    fn has_second_way(self) -> bool
+        ensures { result ≡ has_second_way self.entry.derivation.bytes.now (way_of (way_at self.entry.derivation.bytes.now)) }
+    {
+        let step = self.verifying();
+        let claim = self.derivation.claim;
+        match claim.way {
+            Way::AnotherStep => self.is_other_way(claim.step, claim.companion),
+            Way::AtStart => self.is_known_at_start(step.conclusion),
+            Way::InverseKey => self.is_inverse_known(step.conclusion, claim.companion),
+            Way::GuessDerived | Way::InverseDerived => false,
+        }
+    }
+
+    // Check 9.
+    fn check_second_way(self) -> Result<(), Refusal>
+        ensures { check_of result ≡ fails_if (not (has_second_way self.entry.derivation.bytes.now (way_of (way_at self.entry.derivation.bytes.now)))) 9 (verifying self.entry.derivation.bytes.now) }
+    {
+        if self.has_second_way() {
+            return Ok(());
+        }
+        Err(Fault::NoSecondWay.at(u16::from(self.derivation.claim.step)))
+    }
+
+    // Whether step j undoes step i: one of them takes apart the very term that the other builds.
+    #[tactic(auto, unfolding(crate::specs::Computed::undoes_step))]
+    fn undoes_step(self, j: u8, i: u8) -> bool
+        ensures { result ≡ undoes_step self.entry.derivation.bytes.now j i }
+    {
+        let a = self.derivation.step(j);
+        let b = self.derivation.step(i);
+        dismantles(a, b) || dismantles(b, a)
+    }
+
+    // Whether the verifying step undoes step i, or in way a the companion does.
+    #[tactic(auto, unfolding(crate::specs::Computed::undone))]
+    fn is_undone(self, i: u8) -> bool
+        ensures { result ≡ undone self.entry.derivation.bytes.now i }
+    {
+        let claim = self.derivation.claim;
+        self.undoes_step(claim.step, i)
+            || (claim.way.row().kept && self.undoes_step(claim.companion, i))
+    }
+
+    // Check 10.
+    fn check_undone(self) -> Result<(), Refusal>
+        ensures { check_of result ≡ fails_at 10 (first (undone self.entry.derivation.bytes.now) (steps self.entry.derivation.bytes.now)) }
+    {
+        for i in 0..self.derivation.steps() {
+            if self.is_undone(i) {
+                return Err(Fault::Undone.at(u16::from(i)));
+            }
+        }
+        Ok(())
+    }
+
+    // Checks 8 to 10; a refusal goes straight out.
+    fn check_conditions(self) -> Result<(), Refusal>
+        requires { claims self.derivation.bytes.now ≡ verifier }
+        ensures { check_of result ≡ checks8to10 self.entry.derivation.bytes.now }
+    {
+        let reachable = self.check_reachable();
+        let Ok(()) = reachable else {
+            return reachable;
         };
+        let second_way = self.check_second_way();
+        let Ok(()) = second_way else {
+            return second_way;
+        };
+        self.check_undone()
     }
-    Stage::Passed
-}
 
-// Whether t is a premise of step i.
-fn is_premise(s: &[u8], i: u8, t: u8) -> bool
-    ensures { result ≡ is_premise s.now i t }
-{
-    let step = derivation::step_at(s, i);
-    if t == step.p {
-        return true;
-    }
-    t == derivation::second_of(step)
-}
-
-// Whether each premise of step i is one of step j.
-fn has_premises(s: &[u8], j: u8, i: u8) -> bool
-    ensures { result ≡ (is_premise s.now j (p_at s.now i) && is_premise s.now j (second_at s.now i)) }
-{
-    let step = derivation::step_at(s, i);
-    if is_premise(s, j, step.p) {
-        return is_premise(s, j, derivation::second_of(step));
-    }
-    false
-}
-
-// Whether steps i and j have one premise set.
-fn same_premises(s: &[u8], i: u8, j: u8) -> bool
-    ensures { result ≡ same_premises s.now i j }
-{
-    if has_premises(s, j, i) {
-        return has_premises(s, i, j);
-    }
-    false
-}
-
-// Way a: step j concludes what step i does, by another rule or from another premise set.
-fn is_other_way(s: &[u8], i: u8, j: u8) -> bool
-    ensures { result ≡ other_way s.now i j }
-{
-    let a = derivation::step_at(s, i);
-    let b = derivation::step_at(s, j);
-    if b.conclusion != a.conclusion {
-        return false;
-    }
-    if a.rule != b.rule {
-        return true;
-    }
-    !same_premises(s, i, j)
-}
-
-// Way b: the lowest register of t is one of the knowledge, or the guess's.
-fn is_known_at_start(s: &[u8], first: &[u8; 256], t: u8) -> bool
-    requires limited { Limited s.now }
-    requires lowest { Lowest s.now (written s.now (steps s.now)) first.now }
-    ensures { result ≡ is_known s.now 0 t }
-{
-    derivation::lowest(first, t) < submission::entries(s) + 1
-}
-
-// Way c: t and j are inverse keys, and a register holds j.
-fn is_inverse_known(s: &[u8], first: &[u8; 256], t: u8, j: u8) -> bool
-    requires limited { Limited s.now }
-    requires lowest { Lowest s.now (written s.now (steps s.now)) first.now }
-    ensures { result ≡ (are_inverse s.now t j && is_known s.now (steps s.now) j) }
-{
-    if submission::are_inverse(s, t, j) {
-        return derivation::lowest(first, j) != 255;
-    }
-    false
-}
-
-// Condition 4. Ways k and j have no second way, and are not asked.
-fn has_second_way(s: &[u8], first: &[u8; 256], claim: Claim) -> bool
-    requires limited { Limited s.now }
-    requires lowest { Lowest s.now (written s.now (steps s.now)) first.now }
-    requires claim { IsClaim s.now claim }
-    ensures { result ≡ has_second_way s.now (way_of (way_at s.now)) }
-{
-    let step = derivation::step_at(s, claim.step);
-    let way = claim.way;
-    match way {
-        Way::AnotherStep => is_other_way(s, claim.step, claim.companion),
-        Way::AtStart => is_known_at_start(s, first, step.conclusion),
-        Way::InverseKey => is_inverse_known(s, first, step.conclusion, claim.companion),
-        Way::GuessDerived => false,
-        Way::InverseDerived => false,
-    }
-}
-
-// Check 9.
-fn check_second_way(s: &[u8], first: &[u8; 256], claim: Claim) -> Stage
-    requires limited { Limited s.now }
-    requires lowest { Lowest s.now (written s.now (steps s.now)) first.now }
-    requires claim { IsClaim s.now claim }
-    ensures { check_of result ≡ fails_if (not (has_second_way s.now (way_of (way_at s.now)))) 9 (verifying s.now) }
-{
-    if has_second_way(s, first, claim) {
-        return Stage::Passed;
-    }
-    Stage::Refused {
-        number: 9,
-        place: base::wide16(claim.step),
+    // The checks of what the claim's way claims: 8 to 10 of a verifier, 16 of what is derived.
+    pub fn check_met(self) -> Result<(), Refusal>
+        ensures { check_of result ≡ check_met self.entry.derivation.bytes.now (claims self.entry.derivation.bytes.now) }
+    {
+        match self.derivation.claim.way.row().claims {
+            Claims::Verifier => self.check_conditions(),
+            Claims::Derived(target) => self.check_given(target),
+        }
     }
 }
 
@@ -153,90 +196,5 @@ fn check_second_way(s: &[u8], first: &[u8; 256], claim: Claim) -> Stage
 fn dismantles(a: Step, b: Step) -> bool
     ensures { result ≡ dismantles_by a.rule a.p b.rule b.conclusion }
 {
-    if rules::takes_apart(a.rule, b.rule) {
-        return a.p == b.conclusion;
-    }
-    false
-}
-
-// Whether step j undoes step i: one of them takes apart the very term that the other builds.
-fn undoes_step(s: &[u8], j: u8, i: u8) -> bool
-    ensures { result ≡ undoes_step s.now j i }
-{
-    let a = derivation::step_at(s, j);
-    let b = derivation::step_at(s, i);
-    if dismantles(a, b) {
-        return true;
-    }
-    dismantles(b, a)
-}
-
-// Whether the verifying step undoes step i, or in way a the companion does.
-fn is_undone(s: &[u8], claim: Claim, i: u8) -> bool
-    requires { IsClaim s.now claim }
-    ensures { result ≡ undone s.now i }
-{
-    if undoes_step(s, claim.step, i) {
-        return true;
-    }
-    let way = claim.way;
-    let row = submission::row_of(way);
-    if row.kept {
-        return undoes_step(s, claim.companion, i);
-    }
-    false
-}
-
-// Check 10.
-fn check_undone(s: &[u8], claim: Claim) -> Stage
-    requires { IsClaim s.now claim }
-    ensures { check_of result ≡ fails_at 10 (first (undone s.now) (steps s.now)) }
-{
-    let n = submission::steps(s);
-    let mut i: u8 = 0;
-    while i < n {
-        if is_undone(s, claim, i) {
-            return Stage::Refused {
-                number: 10,
-                place: base::wide16(i),
-            };
-        }
-        i += 1;
-    }
-    Stage::Passed
-}
-
-// Checks 8 to 10; a refusal goes straight out.
-fn check_conditions(s: &[u8], first: &[u8; 256], claim: Claim) -> Stage
-    requires founded { Founded s.now }
-    requires s_value { claims s.now ≡ verifier }
-    requires lowest { Lowest s.now (written s.now (steps s.now)) first.now }
-    requires claim { IsClaim s.now claim }
-    ensures { check_of result ≡ checks8to10 s.now }
-{
-    let reachable = check_reachable(s, claim);
-    let Stage::Passed = reachable else {
-        return reachable;
-    };
-    let second_way = check_second_way(s, first, claim);
-    let Stage::Passed = second_way else {
-        return second_way;
-    };
-    check_undone(s, claim)
-}
-
-// The checks of what the claim's way claims: 8 to 10 of a verifier, 16 of what is derived.
-pub fn check_met(s: &[u8], first: &[u8; 256], claim: Claim) -> Stage
-    requires founded { Founded s.now }
-    requires lowest { Lowest s.now (written s.now (steps s.now)) first.now }
-    requires claim { IsClaim s.now claim }
-    ensures { check_of result ≡ check_met s.now (claims s.now) }
-{
-    let way = claim.way;
-    let row = submission::row_of(way);
-    let claims = row.claims;
-    match claims {
-        Claims::Verifier => check_conditions(s, first, claim),
-        Claims::Derived(target) => given::check_given(s, claim, target),
-    }
+    rules::takes_apart(a.rule, b.rule) && a.p == b.conclusion
 }

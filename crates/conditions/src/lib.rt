@@ -8,73 +8,63 @@ mod page;
 
 ghost use Rattle.std.specs.Prelude.{◌≡◌, length};
 ghost use Rattle.submission.specs.Record.{steps};
-ghost use Rattle.submission.specs.Code.{IsClaim};
-ghost use Rattle.derivation.specs.Step.{written};
-ghost use Rattle.derivation.specs.Code.{Lowest};
-ghost use Rattle.conditions.specs.Code.{Acceptable};
-ghost use Rattle.base.specs.Answer.{done, answer_of};
+ghost use Rattle.base.specs.Answer.{done};
 ghost use Rattle.base.specs.Code.{check_of};
 ghost use Rattle.conditions.specs.Calls.{verdict_answer, Checked};
 ghost use Rattle.program.specs.Program.{program_length};
 ghost use Rattle.base.specs.Computed.{answered, check_room};
 
-use base::{Answer, Stage};
-use submission::{Claim, Reading};
+use base::{Fault, Refusal};
+use conditions::Founded;
+use derivation::Derivation;
+use page::Acceptable;
+use submission::Submission;
 
 // An acceptance carries the count of steps, a refusal its number and place.
-#[derive(Clone, Copy)]
+#[derive(Clone, Copy, PartialEq, Eq)]
 pub enum Verdict {
     Accepted(u8),
     Refused { number: u8, place: u16 },
 }
 
-// The verdict of a check: its refusal, or acceptance with n where it passed.
-fn verdict_of(stage: Stage, n: u8) -> Verdict
-    ensures { verdict_answer result ≡ answered (check_of stage) (done n) }
-{
-    match stage {
-        Stage::Passed => Verdict::Accepted(n),
-        Stage::Refused { number, place } => Verdict::Refused { number, place },
-    }
-}
-
-// The answer that a verdict stands for.
-pub fn answer_of(verdict: Verdict) -> Answer
-    ensures { answer_of result ≡ verdict_answer verdict }
-{
-    match verdict {
-        Verdict::Accepted(n) => Answer::Done(base::wide16(n)),
-        Verdict::Refused { number, place } => Answer::Refused { number, place },
+impl Verdict {
+    // The verdict of a check: its refusal, or acceptance with n where it passed.
+    fn of<T: Drop>(check: Result<T, Refusal>, n: u8) -> Self
+        ensures { verdict_answer result ≡ answered (check_of check) (done n) }
+    {
+        match check {
+            Ok(_) => Verdict::Accepted(n),
+            Err(refusal) => Verdict::Refused {
+                number: refusal.fault.number(),
+                place: refusal.place,
+            },
+        }
     }
 }
 
 // Check 11.
-fn check_page(s: &[u8], page: &[u8]) -> Stage
+fn check_page(s: &[u8], page: &[u8]) -> Result<(), Refusal>
     ensures { check_of result ≡ check_room (program_length (steps s.now)) (length page.now) }
 {
     let needed = program::program_length(submission::steps(s));
-    if page.len() < needed as usize {
-        return Stage::Refused {
-            number: 11,
-            place: needed,
-        };
+    if page.len() < usize::from(needed) {
+        return Err(Fault::Page.at(needed));
     }
-    Stage::Passed
+    Ok(())
 }
 
 // Accepts a submission that passed all checks before 11, where the page has room: writes the register program at the page's start.
-fn accept(s: &[u8], first: &[u8; 256], claim: Claim, page: &mut [u8]) -> Verdict
-    requires acceptable { Acceptable s.now }
-    requires lowest { Lowest s.now (written s.now (steps s.now)) first.now }
-    requires claim { IsClaim s.now claim }
-    ensures { Checked s.now page.old result page.new }
+#[tactic(auto, using(crate::proofs::CheckReturns::accepting))]
+fn accept(passed: Acceptable, page: &mut [u8]) -> Verdict
+    ensures { Checked passed.entry.founded.derivation.bytes.now page.old result page.new }
 {
-    let count = submission::steps(s);
-    let room = check_page(s, page);
-    let Stage::Passed = room else {
-        return verdict_of(room, count);
+    let derivation = passed.founded.derivation;
+    let count = derivation.steps();
+    let room = check_page(derivation.bytes, page);
+    let Ok(()) = room else {
+        return Verdict::of(room, count);
     };
-    page::write_program(s, first, claim, page);
+    passed.write_program(page);
     Verdict::Accepted(count)
 }
 
@@ -83,18 +73,22 @@ pub fn check(s: &[u8], page: &mut [u8]) -> Verdict
     ensures { Checked s.now page.old result page.new }
 {
     let count = submission::steps(s);
-    let reading = submission::check_reading(s);
-    let Reading::Good(claim) = reading else {
-        return verdict_of(submission::stage_of(reading), count);
+    let reading = Submission::read(s);
+    let Ok(submission) = reading else {
+        return Verdict::of(reading, count);
     };
-    let checked = derivation::check_steps(s, claim);
-    let steps = checked.stage;
-    let Stage::Passed = steps else {
-        return verdict_of(steps, count);
+    let derivation = Derivation::from(submission);
+    let steps = derivation.check_steps();
+    let Ok(registers) = &steps else {
+        return Verdict::of(steps, count);
     };
-    let met = conditions::check_met(s, &checked.registers.first, claim);
-    let Stage::Passed = met else {
-        return verdict_of(met, count);
+    let founded = Founded {
+        derivation,
+        registers,
     };
-    accept(s, &checked.registers.first, claim, page)
+    let met = founded.check_met();
+    let Ok(()) = met else {
+        return Verdict::of(met, count);
+    };
+    accept(Acceptable { founded }, page)
 }

@@ -1,28 +1,25 @@
 -- The parts of a record, and the build test that keeps its answers: the returns of `parts_of`, `build` and `is_missing`.
 use mathlib.Core.Path.{◌≡◌, refl, sym, ap, ◌∙◌}
-use mathlib.Core.Logic.{◌⊎◌, inl, inr, ⊎_elim}
-use mathlib.Core.Bool.{Bool, true, false, ◌||◌, ◌&&◌, cond, false≢true, true≢false}
+use mathlib.Core.Bool.{Bool, true, false, ◌||◌, ◌&&◌, not, cond, false≢true, true≢false}
 use mathlib.Core.List.{List}
 use mathlib.Core.Option.{some}
 use Prim.Native.Nat.{ℕ, ◌<◌}
 use native.Mathlib.Omega.{arith}
 use lib.ListN.{length, get_or, set, replicate, length-set, length-replicate}
-use lib.Seq.{get_or-set_other}
-use borrow.Author.Tests.{eq-eqb, ne_eqb}
 use Rattle.term.specs.Code.{Below, is_unary}
 use Rattle.submission.specs.declared.Term.{Term}
 use Rattle.submission.specs.Code.{TableRead, IsTerm}
 use Rattle.term.specs.Term.{Shape, atomic, compound, Rec, leaf, branch}
 use Rattle.term.specs.Number.{shape_of}
 use Rattle.submission.specs.Record.{terms, kind_at, x_at, y_at, name_at, record_of, record_at}
-use Rattle.deduction.specs.declared.Parts.{Parts}
-use Rattle.deduction.specs.declared.Parts.TheVariants.{Nothing, Both}
+use Rattle.std.specs.Prelude.{Option as Maybe, Some, None}
+use Rattle.std.specs.Option.{is_some}
 use Rattle.deduction.specs.Computed.{at, parts_built, built}
-use Rattle.deduction.specs.Code.{marks_of, parts_of, code, Memo, Decided, Unbuilt}
+use Rattle.deduction.specs.Code.{reached_of, Reached, parts_of, Memo, Unbuilt}
 use Rattle.deduction.proofs.Theory.BuildTestLaws.{built_eq}
 use Rattle.submission.proofs.Theory.ListedTerms.{facts}
-use Rattle.base.proofs.Stores.{set_here, each_set, zeros}
-use Rattle.deduction.proofs.MarkArrays.{at_marks}
+use Rattle.base.proofs.Stores.{each_set, unset}
+use Rattle.deduction.proofs.MarkArrays.{at_reached, says_reached}
 use Rattle.term.specs.Computed.{is_atomic}
 
 pub shape_record : (s : List ℕ) (t : ℕ) (z : Shape) → shape_of (kind_at s t) ≡ some z → record_at s t ≡ record_of (some z) (name_at s t) (x_at s t) (y_at s t)
@@ -34,72 +31,62 @@ module _ {s : List ℕ} {t : ℕ} {a : Term} {b : Bool} (w : TableRead s) (l : t
   atomic_at : (z : Shape) → shape_of (kind_at s t) ≡ some z → b ≡ is_atomic (some z)
   atomic_at z f = e ∙ ap is_atomic (ap shape_of r.kind ∙ f)
 
-  pub parts_nothing : b ≡ true → Nothing ≡ parts_of (record_at s t)
+  pub parts_nothing : b ≡ true → None ≡ parts_of (record_at s t)
   parts_nothing h = go ((facts w).good t l).shape ((facts w).good t l).has
     where
-      go : (z : Shape) → shape_of (kind_at s t) ≡ some z → Nothing ≡ parts_of (record_at s t)
+      go : (z : Shape) → shape_of (kind_at s t) ≡ some z → None ≡ parts_of (record_at s t)
       go (atomic κ) f = sym (ap parts_of (shape_record s t (atomic κ) f))
       go (compound c) f = absurd (true≢false (sym h ∙ atomic_at (compound c) f))
 
-  pub parts_both : {y : ℕ} → b ≡ false → y ≡ cond (is_unary (shape_of a.kind)) a.x a.y → Both a.x y ≡ parts_of (record_at s t)
+  pub parts_both : {y : ℕ} → b ≡ false → y ≡ cond (is_unary (shape_of a.kind)) a.x a.y → Some (a.x, y) ≡ parts_of (record_at s t)
   parts_both {y} h g = go ((facts w).good t l).shape ((facts w).good t l).has
     where
-      go : (z : Shape) → shape_of (kind_at s t) ≡ some z → Both a.x y ≡ parts_of (record_at s t)
+      go : (z : Shape) → shape_of (kind_at s t) ≡ some z → Some (a.x, y) ≡ parts_of (record_at s t)
       go (atomic κ) f = absurd (false≢true (sym h ∙ atomic_at (atomic κ) f))
       go (compound c) f =
           let k : shape_of a.kind ≡ some (compound c) = ap shape_of r.kind ∙ f in
           rw (g, k, r.x, r.y) (sym (ap parts_of (shape_record s t (compound c) f)))
 
+pub same_some : {A : Type 0} {a b : A} → Some a ≡ Some b → a ≡ b
+same_some e = cc
+
+pub same_parts : {i j x y : ℕ} → ◌≡◌ {A = Maybe (ℕ × ℕ)} (Some (i, j)) (Some (x, y)) → (i ≡ x) × (j ≡ y)
+same_parts e = (ap (λ (z : ℕ × ℕ). z.0) (same_some e), ap (λ (z : ℕ × ℕ). z.1) (same_some e))
+
 -- they are earlier, and a term is built when they are
-pub both_parts : (r : Rec) {x y : ℕ} → parts_of r ≡ Both x y → ((n : ℕ) → Below n r → (x < n) × (y < n)) × ((b : ℕ → Bool) → parts_built b r ≡ (b x && b y))
+pub both_parts : (r : Rec) {x y : ℕ} → parts_of r ≡ Some (x, y) → ((n : ℕ) → Below n r → (x < n) × (y < n)) × ((b : ℕ → Bool) → parts_built b r ≡ (b x && b y))
 both_parts (leaf κ n) e = absurd (let z : ◌≡◌ {A = ℕ} 0 1 = cc in omega arith)
 both_parts (branch h i j) {x} {y} e =
-    let p : i ≡ x = cc in
-    let q : j ≡ y = cc in
+    let (p, q) = same_parts e in
     (λ n l. (rw p at l.0, rw q at l.1), λ b. rw (p, q))
 
-no_parts : (r : Rec) → parts_of r ≡ Nothing → (b : ℕ → Bool) → parts_built b r ≡ false
+no_parts : (r : Rec) → parts_of r ≡ None → (b : ℕ → Bool) → parts_built b r ≡ false
 no_parts (leaf κ n) e b = refl
 no_parts (branch h i j) e b = absurd (let z : ◌≡◌ {A = ℕ} 0 1 = cc in omega arith)
 
 -- ---- the memo of the build test
-code_no : (b : Bool) → code b ≡ 2 → b ≡ false
-code_no true e = absurd (omega arith)
-code_no false e = refl
+pub memo_none : {s known : List ℕ} → Memo s known (replicate 256 None)
+memo_none = record {
+  long = length-replicate {A = Maybe Bool} 256 None;
+  says = λ n b e. absurd (let z : None ≡ Some b = sym (unset None n 256) ∙ e in let o : ◌≡◌ {A = ℕ} 0 1 = cc in omega arith);
+}
 
-code_yes : (b : Bool) → (code b ≡ 2 → ⊥) → b ≡ true
-code_yes true d = refl
-code_yes false d = absurd (d refl)
-
-pub memo_none : {s known : List ℕ} → Memo s known (replicate 256 0)
-memo_none = record { long = length-replicate {A = ℕ} 256 0; says = λ n. inl (zeros n 256) }
-
--- t has its mark already
-pub decided_before : {s known l : List ℕ} {i t : ℕ} → Memo s known l → i ≡ t → (get_or l i 0 ≡ 0 → ⊥) → Decided s known t l l
-decided_before {s} {known} {l} {i} {t} o e d =
-    record { memo = o; here = ⊎_elim (λ z. absurd (d (ap (λ k. get_or l k 0) e ∙ z))) (λ f. f) (o.says t); kept = λ n f. refl }
-
--- t gets its mark now, after others may have got theirs
-decided_now : {s known l l' : List ℕ} {i t v : ℕ} → i ≡ t → t < 256 → get_or l i 0 ≡ 0 →
-    ((n : ℕ) → (get_or l n 0 ≡ 0 → ⊥) → get_or l' n 0 ≡ get_or l n 0) → Memo s known l' → v ≡ code (built s (marks_of known) t) → Decided s known t l (set l' i v)
-decided_now {s} {known} {l} {l'} {i} {t} {v} e b z p o f =
-    let q : i < length l' = omega (arith, o.long) in
-    let g : v ≡ code (built s (marks_of known) i) = f ∙ ap (λ k. code (built s (marks_of known) k)) (sym e) in
+-- t is decided now, after others may have been
+pub memo_more : {s known : List ℕ} {l : List (Maybe Bool)} {i t : ℕ} {b : Bool} → Memo s known l → i ≡ t → t < 256 → b ≡ built s (reached_of known) t → Memo s known (set l i (Some b))
+memo_more {s} {known} {l} {i} {t} {b} o e m f =
+    let q : i < length l = omega (arith, o.long) in
     record {
-      memo = record {
-        long = length-set l' i v ∙ o.long;
-        says = each_set (λ n w. (w ≡ 0) ⊎ (w ≡ code (built s (marks_of known) n))) l' i v q (inr g) (λ n d. o.says n);
-      };
-      here = rw (← e) (set_here l' i v q ∙ g);
-      kept = λ n d. get_or-set_other l' i n v 0 (λ x. d (rw x z)) ∙ p n d;
+      long = length-set l i (Some b) ∙ o.long;
+      says = each_set None (λ n w. (c : Bool) → w ≡ Some c → c ≡ built s (reached_of known) n) l i (Some b) q
+          (λ c g. sym (same_some g) ∙ rw e f) (λ n d. o.says n);
     }
 
 -- ---- the parts of a term that has two
 module _ {s : List ℕ} {t : ℕ} (w : TableRead s) (l : t < terms s) where
-  small : t < 256
+  pub small : t < 256
   small = omega (arith, (facts w).terms_most)
 
-  module _ {p : Parts} (o : p ≡ parts_of (record_at s t)) {x y : ℕ} (e : p ≡ Both x y) where
+  module _ {p : Maybe (ℕ × ℕ)} (o : p ≡ parts_of (record_at s t)) {x y : ℕ} (e : p ≡ Some (x, y)) where
     fall : (x < t) × (y < t)
     fall = (both_parts (record_at s t) (sym o ∙ e)).0 t ((facts w).table.earlier t l)
 
@@ -109,57 +96,47 @@ module _ {s : List ℕ} {t : ℕ} (w : TableRead s) (l : t < terms s) where
     pub y_falls : (u : ℕ) → t ≡ u → y < u
     y_falls u h = rw (← h) fall.1
 
--- what a call for a part asks: the number falls, so it is that of a term
-pub asks : {x u n : ℕ} {A B : Type 0} → x < u → u < n → A → B → (x < u) × (A × ((x < n) × B))
-asks l m a b = (l, (a, (omega arith, b)))
-
 -- ---- the returns of the build test
 module _ {s : List ℕ} (known : List ℕ) {t : ℕ} (w : TableRead s) (l : t < terms s) where
-  eq : built s (marks_of known) t ≡ (at (marks_of known) t || parts_built (built s (marks_of known)) (record_at s t))
-  eq = built_eq s (marks_of known) (facts w).table.earlier t l
+  eq : built s (reached_of known) t ≡ (at (reached_of known) t || parts_built (built s (reached_of known)) (record_at s t))
+  eq = built_eq s (reached_of known) (facts w).table.earlier t l
 
-  module _ {i : ℕ} (e : i ≡ t) (d : get_or known i 0 ≡ 1 → ⊥) {p : Parts} (o : p ≡ parts_of (record_at s t)) where
-    not_marked : at (marks_of known) t ≡ false
-    not_marked = at_marks known t ∙ ne_eqb _ 1 (λ x. d (ap (λ k. get_or known k 0) e ∙ x))
+  module _ {i : ℕ} (e : i ≡ t) (d : get_or known i 0 ≡ 0) {p : Maybe (ℕ × ℕ)} (o : p ≡ parts_of (record_at s t)) where
+    not_marked : at (reached_of known) t ≡ false
+    not_marked = let z : get_or known t 0 ≡ 0 = rw e at d in at_reached known t ∙ rw z
 
-    atom_built : p ≡ Nothing → built s (marks_of known) t ≡ false
-    atom_built f = eq ∙ rw not_marked (no_parts (record_at s t) (sym o ∙ f) (built s (marks_of known)))
+    atom_built : p ≡ None → built s (reached_of known) t ≡ false
+    atom_built f = eq ∙ rw not_marked (no_parts (record_at s t) (sym o ∙ f) (built s (reached_of known)))
 
-    compound_built : {x y : ℕ} → p ≡ Both x y → built s (marks_of known) t ≡ (built s (marks_of known) x && built s (marks_of known) y)
-    compound_built f = eq ∙ rw not_marked ((both_parts (record_at s t) (sym o ∙ f)).1 (built s (marks_of known)))
+    compound_built : {x y : ℕ} → p ≡ Some (x, y) → built s (reached_of known) t ≡ (built s (reached_of known) x && built s (reached_of known) y)
+    compound_built f = eq ∙ rw not_marked ((both_parts (record_at s t) (sym o ∙ f)).1 (built s (reached_of known)))
 
-module _ {s known l₀ : List ℕ} {t i : ℕ} (w : TableRead s) (l : t < terms s) (m : Memo s known l₀) (e : i ≡ t) (free : get_or l₀ i 0 ≡ 0) where
-  pub now_known : get_or known i 0 ≡ 1 → Decided s known t l₀ (set l₀ i 1)
-  now_known f =
-      let b : built s (marks_of known) t ≡ true = eq known w l ∙ rw (at_marks known t, eq-eqb _ 1 (rw e at f)) in
-      decided_now e (small w l) free (λ n d. refl) m (sym (ap code b))
+module _ {s : List ℕ} (known : List ℕ) {t i : ℕ} (w : TableRead s) (l : t < terms s) (e : i ≡ t) where
+  pub now_known : Reached known i → true ≡ built s (reached_of known) t
+  now_known f = sym (eq known w l ∙ rw ((says_reached known t).1 (rw e at f)))
 
-  module _ (d : get_or known i 0 ≡ 1 → ⊥) {p : Parts} (o : p ≡ parts_of (record_at s t)) where
-    pub now_atom : p ≡ Nothing → Decided s known t l₀ (set l₀ i 2)
-    now_atom f = decided_now e (small w l) free (λ n d. refl) m (sym (ap code (atom_built known w l e d o f)))
+  module _ (d : get_or known i 0 ≡ 0) {p : Maybe (ℕ × ℕ)} (o : p ≡ parts_of (record_at s t)) where
+    pub now_atom : p ≡ None → false ≡ built s (reached_of known) t
+    now_atom f = sym (atom_built known w l e d o f)
 
-    module _ {x y j : ℕ} {l₁ : List ℕ} (g : p ≡ Both x y) (f : Decided s known x l₀ l₁) (h : j ≡ x) where
-      halves : built s (marks_of known) t ≡ (built s (marks_of known) x && built s (marks_of known) y)
-      halves = compound_built known w l e d o g
+    module _ {x y : ℕ} (g : p ≡ Some (x, y)) {a : Bool} (f : a ≡ built s (reached_of known) x) where
+      pub now_left : a ≡ false → a ≡ built s (reached_of known) t
+      now_left h = let k : built s (reached_of known) x ≡ false = sym f ∙ h in h ∙ sym (compound_built known w l e d o g ∙ rw k)
 
-      first_at : get_or l₁ j 0 ≡ code (built s (marks_of known) x)
-      first_at = ap (λ k. get_or l₁ k 0) h ∙ f.here
-
-      pub now_left : get_or l₁ j 0 ≡ 2 → Decided s known t l₀ (set l₁ i (get_or l₁ j 0))
-      now_left u =
-          let b : built s (marks_of known) t ≡ false = halves ∙ rw (code_no (built s (marks_of known) x) (sym first_at ∙ u)) in
-          decided_now e (small w l) free f.kept f.memo (u ∙ sym (ap code b))
-
-      pub now_both : {l₂ : List ℕ} {k : ℕ} → (get_or l₁ j 0 ≡ 2 → ⊥) → Decided s known y l₁ l₂ → k ≡ y → Decided s known t l₀ (set l₂ i (get_or l₂ k 0))
-      now_both {l₂} {k} u v q =
-          let b : built s (marks_of known) t ≡ built s (marks_of known) y = halves ∙ rw (code_yes (built s (marks_of known) x) (λ c. u (first_at ∙ c))) in
-          decided_now e (small w l) free (λ n d. v.kept n (λ c. d (sym (f.kept n d) ∙ c)) ∙ f.kept n d) v.memo
-          (ap (λ k. get_or l₂ k 0) q ∙ v.here ∙ ap code (sym b))
+      pub now_both : {b : Bool} → a ≡ true → b ≡ built s (reached_of known) y → b ≡ built s (reached_of known) t
+      now_both h k =
+          let r : built s (reached_of known) x ≡ true = sym f ∙ h in
+          let q : built s (reached_of known) t ≡ built s (reached_of known) y = compound_built known w l e d o g ∙ rw r in
+          k ∙ sym q
 
 -- ---- the returns of `is_missing`
 pub not_missing : {s known : List ℕ} {k : ℕ} → Unbuilt s known k false
 not_missing = record { no = λ b. absurd (false≢true b) }
 
-pub missing : {s known : List ℕ} {k j : ℕ} {p : Parts} → TableRead s → k < terms s → j ≡ k → (get_or known j 0 ≡ 1 → ⊥) →
-    p ≡ parts_of (record_at s k) → p ≡ Nothing → Unbuilt s known k true
-missing {s} {known} w l e d o f = record { no = λ b. atom_built known w l e d o f }
+no_part : (p : Maybe (ℕ × ℕ)) → is_some p ≡ false → p ≡ None
+no_part None e = refl
+no_part (Some p) e = absurd (true≢false e)
+
+pub missing : {s known : List ℕ} {k j : ℕ} {p : Maybe (ℕ × ℕ)} {b : Bool} → TableRead s → k < terms s → j ≡ k → get_or known j 0 ≡ 0 →
+    p ≡ parts_of (record_at s k) → is_some p ≡ not b → Unbuilt s known k b
+missing {s} {known} {p = p} w l e d o f = record { no = λ g. atom_built known w l e d o (no_part p (f ∙ rw g)) }

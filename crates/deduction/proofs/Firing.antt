@@ -1,100 +1,101 @@
 -- Clauses that fire: the returns and loops of `fire_one`, `fire`, `take_apart`, `open_all` and `compose_all`.
-use mathlib.Core.Path.{◌≡◌, sym, ap, ◌∙◌, subst}
+use mathlib.Core.Path.{◌≡◌, refl, sym, ap, ◌∙◌, subst}
 use mathlib.Core.Logic.{◌⊎◌, inl, inr, ⊎_elim, by_cases}
 use mathlib.Core.List.{List}
 use Prim.Native.Nat.{ℕ, ◌+◌, ◌-◌, ◌%◌, ◌≤◌, ◌<◌}
 use native.Mathlib.Decide.{ℕ_discrete}
 use native.Mathlib.Omega.{arith}
 use lib.ListN.{get_or}
-use Rattle.base.specs.Code.{Chaining}
-use Rattle.base.proofs.Chains.{Walk, walk_start, walk_end, walk_weaker, walk_below, walk_chain, walk_more, walk_less}
-use Rattle.term.specs.Step.{Deducible}
-use Rattle.term.proofs.Reach.{reach_iff}
+use Rattle.base.specs.Code.{Chaining, link_of, byte_of_link}
+use Rattle.base.proofs.Chains.{Linked, walk_start, walk_end, walk_weaker, walk_below, walk_chain, walk_more, walk_less, link_back, linked_of, linked_none, linked_at}
 use Rattle.submission.specs.Code.{TableRead}
-use Rattle.submission.specs.Record.{terms, term}
+use Rattle.submission.specs.Record.{terms}
 use Rattle.submission.proofs.Theory.ListedTerms.{facts}
-use Rattle.deduction.specs.declared.Opening.{Opening}
-use Rattle.deduction.specs.declared.Opening.TheVariants.{Freely, With, Shut}
-use Rattle.deduction.specs.declared.Role.{Role}
-use Rattle.deduction.specs.declared.Role.TheVariants.{Key, First, Second}
-use Rattle.deduction.specs.declared.Clause.{Clause}
-use Rattle.deduction.specs.declared.Clause.TheVariants.{Absent, From}
-use Rattle.deduction.specs.Computed.{Marked}
-use Rattle.deduction.specs.Code.{marks_of, opening_of, clause_of, awaited, linked, Pushed, PushedWith, Among, Queue, Grown, Ready, FiredOne, Fired, TakenApart, OpenTo, Composed, ComposedTo}
-use Rattle.deduction.proofs.MarkArrays.{says_mark}
-use Rattle.deduction.proofs.Clauses.{key_clause_lem, first_clause, second_clause, clause_listed, clause_reached, opening_reached, freely_reached}
+use Rattle.deduction.specs.declared.opening.Opening.{Opening}
+use Rattle.deduction.specs.declared.opening.Opening.TheVariants.{Freely, With, Shut}
+use Rattle.deduction.specs.declared.opening.Role.{Role}
+use Rattle.deduction.specs.declared.opening.Role.TheVariants.{Key, First, Second}
+use Rattle.deduction.specs.declared.opening.Clause.{Clause}
+use Rattle.std.specs.Prelude.{Option as Maybe, Some, None}
+use Rattle.deduction.specs.Code.{Reached, opening_of, from, clause_of, awaited, linked}
+use Rattle.deduction.specs.Saturation.{ComesFrom, from_pair, from_key, Pushed, PushedWith, Among, Queue, Grown, Ready, FiredOne, Fired, TakenApart, OpenTo, Composed, ComposedTo}
+use Rattle.deduction.proofs.Clauses.{key_clause_lem, first_clause_lem, second_clause_lem, same_clause, no_clause, clause_listed, clause_comes}
 use Rattle.deduction.proofs.RecordOpening.{freely_listed, with_listed}
 use Rattle.deduction.proofs.MarkOrder.{grown_none, grown_trans, among_back, among_marked, pushed_here, pushed_grown}
 
 -- ---- one clause
-module _ {s m o m' o' : List ℕ} {end r y : ℕ} (x : ℕ) (v : TableRead s) (q : Queue s m o end) where
+-- a record's number is below the last byte
+pub mark_fits : {s : List ℕ} {t : ℕ} → TableRead s → t < terms s → t + 1 < 256
+mark_fits v l = omega (arith, (facts v).terms_most)
+
+module _ {s m o m' o' : List ℕ} {end r y : ℕ} (x t : ℕ) (v : TableRead s) (q : Queue s m o end) (l : y < terms s) (p : PushedWith y (t + 1) x m o end m' o' r) where
   -- a term that is pushed where another is marked
-  with_grown : y < terms s → (get_or m x 0 ≡ 1 → Deducible (Marked s (marks_of m)) (term s y)) → PushedWith m o end y x m' o' r → Grown s m o end m' o' r
-  with_grown l d = ⊎_elim (λ (e, p). pushed_grown v q l p (d e)) (λ (_, a, b, c). rw (a, b, c) (grown_none q))
+  pub with_grown : t < terms s → (Reached m x → ComesFrom s (Reached m) t y) → Grown s m o end m' o' r
+  with_grown k d =
+      ⊎_elim (λ (e, a). pushed_grown v q l (λ z. omega arith) a t k (omega arith) (d e)) (λ (_, a, b, c). rw (a, b, c) (grown_none q)) p
 
-  with_here : y < terms s → PushedWith m o end y x m' o' r → get_or m x 0 ≡ 1 → get_or m' y 0 ≡ 1
-  with_here l p e = ⊎_elim (λ (_, a). pushed_here v q l a) (λ (d, _, _, _). absurd (d e)) p
+  pub with_here : Reached m x → Reached m' y
+  with_here e = ⊎_elim (λ (_, a). pushed_here v q l (λ z. omega arith) a) (λ (d, _, _, _). absurd (e d)) p
 
-module _ {s m o : List ℕ} {role : Role} {end t : ℕ} {clause : Clause} (c : clause ≡ clause_of s role t) (q : Queue s m o end) where
-  pub fired_absent : clause ≡ Absent → FiredOne s role t m o end m o end
-  fired_absent e = record { grown = grown_none q; gave = λ u x y f. absurd (let z : Absent ≡ From u x y = sym e ∙ c ∙ f in let w : ◌≡◌ {A = ℕ} 0 1 = cc in omega arith) }
+module _ {s m o : List ℕ} {role : Role} {end t : ℕ} {clause : Maybe Clause} (c : clause ≡ clause_of s role t) (q : Queue s m o end) where
+  pub fired_absent : clause ≡ None → FiredOne s role t m o end m o end
+  fired_absent e = record { grown = grown_none q; gave = λ u x y f. no_clause (sym e ∙ c ∙ f) }
 
-  pub fired_from : {m' o' : List ℕ} {u x y r : ℕ} → TableRead s → t < terms s → Ready s role m t → clause ≡ From u x y →
-      PushedWith m o end y x m' o' r → FiredOne s role t m o end m' o' r
-  fired_from {u = u} {x = x} {y = y} v l d e p =
-      let f : clause_of s role t ≡ From u x y = sym c ∙ e in
+  pub fired_from : {m' o' : List ℕ} {k : Clause} {r : ℕ} → TableRead s → t < terms s → Ready s role m t → clause ≡ Some k →
+      PushedWith k.result (t + 1) k.other m o end m' o' r → FiredOne s role t m o end m' o' r
+  fired_from {k = k} v l d e p =
+      let f : clause_of s role t ≡ from k.term k.other k.result = sym c ∙ e in
       let (_, _, b) = clause_listed v l role f in
       record {
-        grown = with_grown x v q b (λ g. (reach_iff _ _).0 (clause_reached v l (marks_of m) role f ((says_mark m u).1 (d.is u x y f)) ((says_mark m x).1 g)).1) p;
-        gave = λ u' x' y' f'.
-            let z : From u x y ≡ From u' x' y' = sym f ∙ f' in
-            let ex : x ≡ x' = cc in
-            let ey : y ≡ y' = cc in
-            rw (← ex, ← ey) (with_here x v q b p);
+        grown = with_grown k.other t v q b p l (clause_comes role f (d.is k.term k.other k.result f));
+        gave = λ u' x' y' f'. let (_, ex, ey) = same_clause (sym f ∙ f') in rw (← ex, ← ey) (with_here k.other t v q b p);
       }
 
 -- ---- all clauses that wait for u
-pub record Firing (s : List ℕ) (role : Role) (u : ℕ) (m₀ o₀ : List ℕ) (end₀ : ℕ) (m o : List ℕ) (end j : ℕ) : Type 0 where
+pub record Firing (s : List ℕ) (role : Role) (u : ℕ) (m₀ o₀ : List ℕ) (end₀ : ℕ) (m o : List ℕ) (end : ℕ) (n : Maybe ℕ) : Type 0 where
   pub grown : Grown s m₀ o₀ end₀ m o end
-  pub walk : Walk (linked s role) (λ t. (x y : ℕ) → clause_of s role t ≡ From u x y → get_or m₀ x 0 ≡ 1 → get_or m y 0 ≡ 1) (terms s) u j
+  pub walk : Linked (linked s role) (λ t. (x y : ℕ) → clause_of s role t ≡ from u x y → Reached m₀ x → Reached m y) (terms s) u n
 
-pub firing_start : {s m o before latest : List ℕ} {role : Role} {end u w : ℕ} → TableRead s → Chaining (linked s role) (terms s) before latest →
-    Queue s m o end → u < terms s → w ≡ u → Firing s role u m o end m o end (get_or latest w 0)
+pub firing_start : {s m o before latest : List ℕ} {role : Role} {end u : ℕ} {n : Maybe ℕ} → TableRead s → Chaining (linked s role) (terms s) before latest →
+    Queue s m o end → u < terms s → n ≡ link_of (get_or latest u 0) → Firing s role u m o end m o end n
 firing_start {u = u} v c q l e =
     let b : u < 256 = omega (arith, (facts v).terms_most) in
-    record { grown = grown_none q; walk = walk_start b (rw e (c.is u b)) }
+    record { grown = grown_none q; walk = linked_of (walk_start b (c.is u b)) e }
 
-module _ {s m₀ o₀ m o : List ℕ} {role : Role} {u end₀ end j : ℕ} (p : Firing s role u m₀ o₀ end₀ m o end j) where
-  pub firing_end : j ≡ 255 → Fired s role u m₀ o₀ end₀ m o end
+module _ {s m₀ o₀ m o : List ℕ} {role : Role} {u end₀ end : ℕ} {n : Maybe ℕ} (p : Firing s role u m₀ o₀ end₀ m o end n) where
+  pub firing_end : n ≡ None → Fired s role u m₀ o₀ end₀ m o end
   unfolding linked
-  firing_end e = record { grown = p.grown; gave = λ t x y l f. walk_end p.walk e t l (ap awaited f) x y f }
+  firing_end e = record { grown = p.grown; gave = λ t x y l f. walk_end (linked_none p.walk e) refl t l (ap awaited f) x y f }
 
-  module _ (d : j ≡ 255 → ⊥) where
+  module _ {j : ℕ} (e : n ≡ Some j) where
     pub firing_below : j < terms s
-    firing_below = walk_below p.walk d
+    firing_below = let w = linked_at p.walk e in walk_below w.0 w.1
 
-    pub firing_byte : {w : ℕ} → TableRead s → w ≡ j → w < 256
-    firing_byte v e = let b = firing_below in omega (arith, (facts v).terms_most)
-
-    pub firing_ready : u < terms s → get_or m₀ u 0 ≡ 1 → Ready s role m j
+    pub firing_ready : u < terms s → Reached m₀ u → Ready s role m j
     unfolding linked
-    firing_ready l e = record { is = λ u' x y f. let g : u' ≡ u = ap awaited (sym f) ∙ walk_chain p.walk d in rw g (p.grown.sound.holds u l e) }
+    firing_ready l a =
+        let w = linked_at p.walk e in
+        record { is = λ u' x y f. let g : u' ≡ u = ap awaited (sym f) ∙ walk_chain w.0 w.1 in rw g (p.grown.sound.holds u l a) }
 
-    module _ {before latest : List ℕ} {w : ℕ} (v : TableRead s) (c : Chaining (linked s role) (terms s) before latest) (e : w ≡ j) where
-      pub firing_more : {m' o' : List ℕ} {end' : ℕ} → FiredOne s role j m o end m' o' end' → Firing s role u m₀ o₀ end₀ m' o' end' (get_or before w 0)
-      firing_more f = record {
-        grown = grown_trans p.grown f.grown;
-        walk = walk_more
-            (walk_weaker p.walk (λ k l g x y h a. f.grown.sound.holds y (clause_listed v l role h).2 (g x y h a)))
-            d c.chained (omega arith) e
-            (λ x y h a. f.gave u x y h (p.grown.sound.holds x (clause_listed v firing_below role h).1 a));
-      }
+    module _ {before latest : List ℕ} {n' : Maybe ℕ} (v : TableRead s) (c : Chaining (linked s role) (terms s) before latest) (g : n' ≡ link_of (get_or before j 0)) where
+      pub firing_more : {m' o' : List ℕ} {end' : ℕ} → FiredOne s role j m o end m' o' end' → Firing s role u m₀ o₀ end₀ m' o' end' n'
+      firing_more f =
+          let w = linked_at p.walk e in
+          record {
+            grown = grown_trans p.grown f.grown;
+            walk = linked_of (walk_more
+                (walk_weaker w.0 (λ k l h x y h' a. f.grown.sound.holds y (clause_listed v l role h').2 (h x y h' a)))
+                w.1 c.chained (omega arith) refl
+                (λ x y h a. f.gave u x y h (p.grown.sound.holds x (clause_listed v firing_below role h).1 a))) g;
+          }
 
-      pub firing_less : (get_or before w 0 + 1) % 256 < (j + 1) % 256
-      firing_less = walk_less p.walk d c.chained (omega arith) e (omega (arith, (facts v).terms_most))
+      pub firing_less : (byte_of_link n' + 1) % 256 < (byte_of_link n + 1) % 256
+      firing_less =
+          let w = linked_at p.walk e in
+          rw (g, link_back, e) (walk_less w.0 w.1 c.chained (omega arith) refl (omega (arith, (facts v).terms_most)))
 
 -- ---- what a marked record gives
-module _ {s m o : List ℕ} {end u : ℕ} {a : Opening} (v : TableRead s) (l : u < terms s) (c : a ≡ opening_of s u) (q : Queue s m o end) (e : get_or m u 0 ≡ 1) where
+module _ {s m o : List ℕ} {end u : ℕ} {a : Opening} (v : TableRead s) (l : u < terms s) (c : a ≡ opening_of s u) (q : Queue s m o end) (e : Reached m u) where
   pub taken_shut : a ≡ Shut → TakenApart s u m o end m o end
   taken_shut f = record {
     grown = grown_none q;
@@ -102,33 +103,34 @@ module _ {s m o : List ℕ} {end u : ℕ} {a : Opening} (v : TableRead s) (l : u
     opened = λ b k g. absurd (let z : Shut ≡ With b k = sym f ∙ c ∙ g in let w : ◌≡◌ {A = ℕ} 0 1 = cc in omega arith);
   }
 
-  pub taken_with : {body key r : ℕ} {m' o' : List ℕ} → a ≡ With body key → PushedWith m o end body key m' o' r → TakenApart s u m o end m' o' r
+  pub taken_with : {body key r : ℕ} {m' o' : List ℕ} → a ≡ With body key → PushedWith body (u + 1) key m o end m' o' r → TakenApart s u m o end m' o' r
   taken_with {body} {key} f p =
       let g : opening_of s u ≡ With body key = sym c ∙ f in
       let (b, k) = with_listed v l g in
       record {
-        grown = with_grown key v q b (λ h. (reach_iff _ _).0 (opening_reached v l (marks_of m) g ((says_mark m u).1 e) ((says_mark m key).1 h)).1) p;
+        grown = with_grown key u v q b p l (λ h. from_key key e g h);
         freely = λ x y h. absurd (let z : With body key ≡ Freely x y = sym g ∙ h in let w : ◌≡◌ {A = ℕ} 0 1 = cc in omega arith);
         opened = λ b' k' h.
             let z : With body key ≡ With b' k' = sym g ∙ h in
             let eb : body ≡ b' = cc in
             let ek : key ≡ k' = cc in
-            rw (← eb, ← ek) (with_here key v q b p);
+            rw (← eb, ← ek) (with_here key u v q b p);
       }
 
-  pub taken_freely : {x y e₁ r : ℕ} {m₁ o₁ m' o' : List ℕ} → a ≡ Freely x y → Pushed m o end x m₁ o₁ e₁ → Pushed m₁ o₁ e₁ y m' o' r → TakenApart s u m o end m' o' r
+  pub taken_freely : {x y e₁ r : ℕ} {m₁ o₁ m' o' : List ℕ} → a ≡ Freely x y → Pushed x (u + 1) m o end m₁ o₁ e₁ → Pushed y (u + 1) m₁ o₁ e₁ m' o' r → TakenApart s u m o end m' o' r
   taken_freely {x} {y} {m₁ = m₁} f p₁ p₂ =
       let g : opening_of s u ≡ Freely x y = sym c ∙ f in
       let (bx, by) = freely_listed v l g in
-      let g₁ = pushed_grown v q bx p₁ ((reach_iff _ _).0 (freely_reached v l (marks_of m) g ((says_mark m u).1 e)).0) in
-      let g₂ = pushed_grown v g₁.queue by p₂ ((reach_iff _ _).0 (freely_reached v l (marks_of m₁) g ((says_mark m₁ u).1 (g₁.sound.holds u l e))).1) in
+      let f₀ : u + 1 ≡ 0 → ⊥ = λ z. omega arith in
+      let g₁ = pushed_grown v q bx f₀ p₁ u l (omega arith) (from_pair x y e g (inl refl)) in
+      let g₂ = pushed_grown v g₁.queue by f₀ p₂ u l (omega arith) (from_pair x y (g₁.sound.holds u l e) g (inr refl)) in
       record {
         grown = grown_trans g₁ g₂;
         freely = λ x' y' h.
             let z : Freely x y ≡ Freely x' y' = sym g ∙ h in
             let ex : x ≡ x' = cc in
             let ey : y ≡ y' = cc in
-            rw (← ex, ← ey) (g₂.sound.holds x bx (pushed_here v q bx p₁), pushed_here v g₁.queue by p₂);
+            rw (← ex, ← ey) (g₂.sound.holds x bx (pushed_here v q bx f₀ p₁), pushed_here v g₁.queue by f₀ p₂);
         opened = λ b k h. absurd (let z : Freely x y ≡ With b k = sym g ∙ h in let w : ◌≡◌ {A = ℕ} 0 1 = cc in omega arith);
       }
 
@@ -169,7 +171,7 @@ module _ {s m₀ o₀ m o : List ℕ} {e₀ e h : ℕ} (p : Treated s m₀ o₀ 
   pub next_term : get_or o h 0 < terms s
   next_term = p.grown.queue.terms h b
 
-  pub next_marked : get_or m (get_or o h 0) 0 ≡ 1
+  pub next_marked : Reached m (get_or o h 0)
   next_marked = p.grown.queue.marked h b
 
   pub next_less : 256 - (h + 1) < 256 - h
@@ -188,7 +190,7 @@ module _ {s m₀ o₀ m o : List ℕ} {e₀ e h : ℕ} (p : OpenLoop s m₀ o₀
   open_end b = let i : h ≡ e = omega (arith, p.treated.within) in subst (OpenTo s m o) i p.apart
 
   module _ (b : h < e) where
-    pub open_still : {m₁ o₁ : List ℕ} {e₁ : ℕ} → TakenApart s (get_or o h 0) m o e m₁ o₁ e₁ → get_or m₁ (get_or o h 0) 0 ≡ 1
+    pub open_still : {m₁ o₁ : List ℕ} {e₁ : ℕ} → TakenApart s (get_or o h 0) m o e m₁ o₁ e₁ → Reached m₁ (get_or o h 0)
     open_still a = a.grown.sound.holds _ (next_term p.treated b) (next_marked p.treated b)
 
     pub open_more : {m₁ o₁ m₂ o₂ : List ℕ} {e₁ e₂ : ℕ} → TableRead s → TakenApart s (get_or o h 0) m o e m₁ o₁ e₁ →
@@ -199,7 +201,7 @@ module _ {s m₀ o₀ m o : List ℕ} {e₀ e h : ℕ} (p : OpenLoop s m₀ o₀
         let g = grown_trans a.grown f.grown in
         let c : h ≤ e = omega arith in
         let kept = open_kept v q g c p.apart in
-        let marked : (n : ℕ) → Among o₂ (h + 1) n → (n < terms s) × (get_or m n 0 ≡ 1) = λ n i. among_marked q (omega arith) (among_back g (omega arith) i) in
+        let marked : (n : ℕ) → Among o₂ (h + 1) n → (n < terms s) × (Reached m n) = λ n i. among_marked q (omega arith) (among_back g (omega arith) i) in
         record {
           treated = treated_more p.treated b g;
           apart = record {
@@ -225,7 +227,7 @@ module _ {s m₀ o₀ m o : List ℕ} {e₀ e h : ℕ} (p : OpenLoop s m₀ o₀
 
 -- ---- what is built of one term
 module _ {s m o m₁ o₁ : List ℕ} {e e₁ u : ℕ} (v : TableRead s) (f : Fired s First u m o e m₁ o₁ e₁) where
-  pub first_still : u < terms s → get_or m u 0 ≡ 1 → get_or m₁ u 0 ≡ 1
+  pub first_still : u < terms s → Reached m u → Reached m₁ u
   first_still l a = f.grown.sound.holds u l a
 
   module _ {m₂ o₂ : List ℕ} {e₂ : ℕ} (f' : Fired s Second u m₁ o₁ e₁ m₂ o₂ e₂) where
@@ -239,10 +241,10 @@ module _ {s m o m₁ o₁ : List ℕ} {e e₁ u : ℕ} (v : TableRead s) (f : Fi
     composed g p = record {
       grown = grown_trans (grown_trans f.grown f'.grown) g;
       apart = p;
-      first = λ t y l j a. g.sound.holds t l (f'.grown.sound.holds t l (f.gave t y t l (first_clause j) a));
+      first = λ t y l j a. g.sound.holds t l (f'.grown.sound.holds t l (f.gave t y t l (first_clause_lem j) a));
       second = λ t x l j a.
-          let b = (clause_listed v l Second (second_clause j)).1 in
-          g.sound.holds t l (f'.gave t x t l (second_clause j) (f.grown.sound.holds x b a));
+          let b = (clause_listed v l Second (second_clause_lem j)).1 in
+          g.sound.holds t l (f'.gave t x t l (second_clause_lem j) (f.grown.sound.holds x b a));
     }
 
 -- ---- the loop of `compose_all`
@@ -268,7 +270,7 @@ module _ {s m₀ o₀ m o : List ℕ} {e₀ e h : ℕ} (p : ComposeLoop s m₀ o
       let q = p.treated.grown.queue in
       let g = c.grown in
       let kept = composed_kept v q g (omega arith) p.composed_to in
-      let marked : (n : ℕ) → Among o₁ (h + 1) n → get_or m n 0 ≡ 1 = λ n i. (among_marked q (omega arith) (among_back g (omega arith) i)).1 in
+      let marked : (n : ℕ) → Among o₁ (h + 1) n → Reached m n = λ n i. (among_marked q (omega arith) (among_back g (omega arith) i)).1 in
       record {
         treated = treated_more p.treated b g;
         apart = c.apart;

@@ -10,4 +10,4 @@ pub mod MarkArrays
 pub mod MarkOrder
 pub mod OpeningKeys
 pub mod RecordOpening
-pub mod Saturation
+pub mod Working

@@ -1,15 +1,18 @@
--- What a mark says.
+-- What a mark of the working says.
 use mathlib.Core.Path.{◌≡◌, sym, ◌∙◌}
+use mathlib.Core.Bool.{not}
 use mathlib.Core.List.{List}
 use Prim.Native.Nat.{ℕ}
 use lib.Dec.{eqb}
 use lib.ListN.{get_or, get_or-map}
-use Rattle.base.proofs.Says.{Says, says_eqb}
+use Rattle.base.proofs.Says.{Says, says_eqb, says_not}
 use Rattle.deduction.specs.Computed.{at}
-use Rattle.deduction.specs.Code.{marks_of}
+use Rattle.deduction.specs.Code.{reached_of, Reached}
 
-pub at_marks : (l : List ℕ) (n : ℕ) → at (marks_of l) n ≡ eqb (get_or l n 0) 1
-at_marks l n = get_or-map (λ v. eqb v 1) l n 0
+pub at_reached : (l : List ℕ) (n : ℕ) → at (reached_of l) n ≡ not (eqb (get_or l n 0) 0)
+at_reached l n = get_or-map (λ v. not (eqb v 0)) l n 0
 
-pub says_mark : (l : List ℕ) (n : ℕ) → Says (at (marks_of l) n) (get_or l n 0 ≡ 1)
-says_mark l n = (λ e. (says_eqb _ 1).0 (sym (at_marks l n) ∙ e), λ e. at_marks l n ∙ (says_eqb _ 1).1 e)
+pub says_reached : (l : List ℕ) (n : ℕ) → Says (at (reached_of l) n) (Reached l n)
+says_reached l n =
+    let (f, g) = says_not (eqb (get_or l n 0) 0) (says_eqb (get_or l n 0) 0) in
+    (λ e. f (sym (at_reached l n) ∙ e), λ r. at_reached l n ∙ g r)

@@ -2,66 +2,68 @@
 use mathlib.Core.Path.{◌≡◌, refl, sym, ap, ◌∙◌}
 use mathlib.Core.Bool.{Bool, true, false, ◌&&◌, ◌||◌, cond}
 use mathlib.Core.List.{List}
-use mathlib.Core.Option.{some}
+use mathlib.Core.Option.{some, none}
+use Rattle.std.specs.Prelude.{Option as Maybe, Some, None}
 use Prim.Native.Nat.{ℕ, ◌<◌}
 use lib.Dec.{eqb}
 use lib.ListN.{get_or}
-use borrow.Author.Tests.{ne_eqb, eqb-true, eqb-false}
+use borrow.Author.Tests.{eqb-true, eqb-false}
 use Rattle.base.proofs.BoolLaws.{and_right}
-use Rattle.term.specs.Term.{symmetric, asymmetric, Form, pair, hash, encryption, make, part, decrypt, Shape, atomic, compound, Rec, leaf, branch}
-use Rattle.term.specs.{Number.shape_of, Computed.kind_of}
-use Rattle.term.proofs.Kind.{shape_kind, kind_shape}
+use Rattle.term.specs.Term.{symmetric, asymmetric, pair, hash, encryption, make, part, decrypt, Rec, leaf, branch}
+use Rattle.term.specs.{Number.shape_of}
+use Rattle.term.specs.Code.{kind_is, shape_read}
+use Rattle.term.specs.declared.kind.Kind.{Kind}
+use Rattle.term.specs.declared.kind.Kind.TheVariants.{Plain, Public, Private, Pair, Enc, Enca, Hash}
+use native.Mathlib.Omega.{arith}
 use Rattle.term.proofs.Table.{part_below}
 use Rattle.submission.specs.declared.Term.{Term}
 use Rattle.submission.specs.Code.{TableRead, IsTerm}
-use Rattle.submission.specs.Record.{terms, kind_at, x_at, y_at, name_at, record_of, record_at}
+use Rattle.submission.specs.Record.{terms, x_at, y_at, name_at, record_of, record_at}
 use Rattle.submission.proofs.Theory.ListedTerms.{facts}
 use Rattle.inverse.specs.{Computed.inverse_of, Code.Inverses}
-use Rattle.deduction.specs.declared.Opening.{Opening}
-use Rattle.deduction.specs.declared.Opening.TheVariants.{Freely, With, Shut}
+use Rattle.deduction.specs.declared.opening.Opening.{Opening}
+use Rattle.deduction.specs.declared.opening.Opening.TheVariants.{Freely, With, Shut}
 use Rattle.deduction.specs.Computed.{built, gives}
 use Rattle.deduction.specs.Code.{opens_by, opening_in, opening_of}
 use Rattle.deduction.proofs.OpeningKeys.{no_key, the_inverse, the_key}
 use Rattle.deduction.proofs.BuildMemo.{shape_record}
 
 -- ---- what each kind's record opens with
-module _ {s : List ℕ} {t : ℕ} {a : Term} (v : TableRead s) (l : t < terms s) (i : IsTerm s t a) where
-  kind_record : (f : Form) → a.kind ≡ kind_of (compound f) → record_at s t ≡ record_of (some (compound f)) (name_at s t) (x_at s t) (y_at s t)
-  kind_record f k = shape_record s t (compound f) (ap shape_of (sym i.kind ∙ k) ∙ kind_shape (compound f))
+module _ {s : List ℕ} {t : ℕ} {a : Term} (v : TableRead s) (l : t < terms s) (i : IsTerm s t a) {m : Maybe Kind} (e : shape_read m ≡ shape_of a.kind) where
+  -- a term's number is that of a kind
+  pub opens_none : m ≡ None → Shut ≡ opening_of s t
+  opens_none f =
+      let z : none ≡ some ((facts v).good t l).shape = ap shape_read (sym f) ∙ e ∙ ap shape_of i.kind ∙ ((facts v).good t l).has in
+      absurd (let o : ◌≡◌ {A = ℕ} 0 1 = cc in omega arith)
 
-  pub opens_freely : a.kind ≡ kind_of (compound pair) → Freely a.x a.y ≡ opening_of s t
-  opens_freely k = rw (kind_record pair k, i.x, i.y)
+  module _ {k : Kind} (f : m ≡ Some k) where
+    record_kind : {z : Kind} → k ≡ z → record_at s t ≡ record_of (some (kind_is z)) (name_at s t) (x_at s t) (y_at s t)
+    record_kind {z} g = shape_record s t (kind_is z) (ap shape_of (sym i.kind) ∙ sym e ∙ ap shape_read f ∙ ap (λ y. some (kind_is y)) g)
 
-  pub opens_symmetric : a.kind ≡ kind_of (compound (encryption symmetric)) → With a.x a.y ≡ opening_of s t
-  opens_symmetric k = rw (kind_record (encryption symmetric) k, i.x, i.y)
+    pub opens_freely : k ≡ Pair → Freely a.x a.y ≡ opening_of s t
+    opens_freely g = rw (record_kind g, i.x, i.y)
 
-  pub opens_asymmetric : {inverses : List ℕ} {k : ℕ} {o : Opening} → Inverses s inverses → k ≡ a.y →
-      a.kind ≡ kind_of (compound (encryption asymmetric)) → o ≡ opens_by a.x (get_or inverses k 0) → o ≡ opening_of s t
-  opens_asymmetric {inverses} {k} u f six g =
-      let r = kind_record (encryption asymmetric) six in
-      let e : get_or inverses k 0 ≡ inverse_of s (y_at s t) = ap (λ n. get_or inverses n 0) (f ∙ i.y) ∙ u.is (y_at s t) (part_below (facts v).table t l r).1 in
-      rw (g, r, e, i.x)
+    pub opens_symmetric : k ≡ Enc → With a.x a.y ≡ opening_of s t
+    opens_symmetric g = rw (record_kind g, i.x, i.y)
 
-  pub opens_other : (a.kind ≡ kind_of (compound pair) → ⊥) → (a.kind ≡ kind_of (compound (encryption symmetric)) → ⊥) →
-      (a.kind ≡ kind_of (compound (encryption asymmetric)) → ⊥) → Shut ≡ opening_of s t
-  opens_other b c d = go ((facts v).good t l).shape ((facts v).good t l).has
-    where
-      kind : (w : Shape) → shape_of (kind_at s t) ≡ some w → a.kind ≡ kind_of w
-      kind w e = i.kind ∙ shape_kind (kind_at s t) w e
+    pub opens_asymmetric : {inverses : List ℕ} {j : ℕ} {o : Opening} → Inverses s inverses → j ≡ a.y → k ≡ Enca →
+        o ≡ opens_by a.x (get_or inverses j 0) → o ≡ opening_of s t
+    opens_asymmetric {inverses} {j} u h g q =
+        let r = record_kind g in
+        let d : get_or inverses j 0 ≡ inverse_of s (y_at s t) = ap (λ n. get_or inverses n 0) (h ∙ i.y) ∙ u.is (y_at s t) (part_below (facts v).table t l r).1 in
+        rw (q, r, d, i.x)
 
-      go : (w : Shape) → shape_of (kind_at s t) ≡ some w → Shut ≡ opening_of s t
-      go (atomic κ) e = rw (shape_record s t (atomic κ) e)
-      go (compound pair) e = absurd (b (kind (compound pair) e))
-      go (compound hash) e = rw (shape_record s t (compound hash) e)
-      go (compound (encryption symmetric)) e = absurd (c (kind (compound (encryption symmetric)) e))
-      go (compound (encryption asymmetric)) e = absurd (d (kind (compound (encryption asymmetric)) e))
-
--- a key, or none
-pub by_no_key : {key : ℕ} (body : ℕ) → key ≡ 255 → Shut ≡ opens_by body key
-by_no_key body e = rw e
-
-pub by_key : {key : ℕ} (body : ℕ) → (key ≡ 255 → ⊥) → With body key ≡ opens_by body key
-by_key body d = rw (ne_eqb _ 255 d)
+    pub opens_other : (k ≡ Pair → ⊥) → (k ≡ Enc → ⊥) → (k ≡ Enca → ⊥) → Shut ≡ opening_of s t
+    opens_other b c d = go k refl
+      where
+        go : (z : Kind) → k ≡ z → Shut ≡ opening_of s t
+        go Plain g = rw (record_kind g)
+        go Public g = rw (record_kind g)
+        go Private g = rw (record_kind g)
+        go Pair g = absurd (b g)
+        go Enc g = absurd (c g)
+        go Enca g = absurd (d g)
+        go Hash g = rw (record_kind g)
 
 -- ---- what an opening gives
 -- taking apart what opens so gives the term n, over the marks m

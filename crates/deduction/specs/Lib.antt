@@ -1,3 +1,4 @@
 pub mod Code
 pub mod Computed
 pub mod Deduce
+pub mod Saturation

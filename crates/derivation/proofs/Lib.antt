@@ -1,5 +1,5 @@
+pub mod KindTests
 pub mod RegistersHeld
 pub mod StepReturns
 pub mod StepShapeTests
 pub mod Theory
-pub mod ThreeTests

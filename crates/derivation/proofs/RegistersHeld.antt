@@ -18,17 +18,14 @@ use Rattle.base.proofs.BoolLaws.{and_both, and_left, and_right}
 use Rattle.base.proofs.FirstGrowing.{first_kept, first_next, first_same}
 use Rattle.base.proofs.Order.{lt_or_ge}
 use Rattle.submission.specs.declared.Claim.{Claim}
-use Rattle.submission.specs.declared.Way.{Way as WayRead}
-use Rattle.submission.specs.declared.Row.{Row as RowRead}
-use Rattle.submission.specs.declared.Target.{Target as TargetRead}
-use Rattle.submission.specs.declared.Claims.TheVariants.{Verifier, Derived}
-use Rattle.submission.specs.{Code.Limited, Code.way_is, Code.row_is, Code.IsClaim, Record.entries, Record.steps, Record.entry_at, Check.claims_in, Check.claims, Check.row}
+use Rattle.submission.specs.{Code.Limited, Code.way_is, Code.IsClaim, Record.entries, Record.steps, Record.entry_at, Check.claims_in, Check.row}
 use Rattle.derivation.specs.declared.Step.{Step}
 use Rattle.derivation.specs.declared.Registers.{Registers}
 use Rattle.derivation.specs.Step.{guess_counts, register_term, register_counts, holds_term, written}
-use Rattle.derivation.specs.Code.{IsStep, Lowest, Registered, Unused, holding, with_guess}
+use Rattle.derivation.specs.Code.{IsStep, Lowest, Registered, Unused, Held, holding, register_in}
 use Rattle.derivation.proofs.Theory.RegisterTerms.{entry_register, guess_register, result_register, counts_other, counts_guess}
 use Rattle.derivation.specs.Computed.{lowest_among}
+use Rattle.std.specs.Prelude.{None, Some, is_some as is_held}
 
 -- ---- one call of `hold`
 module _ (f : List ℕ) {i t : ℕ} (q : ℕ) (e : i ≡ t) where
@@ -40,21 +37,7 @@ module _ (f : List ℕ) {i t : ℕ} (q : ℕ) (e : i ≡ t) where
   unfolding holding
   held_now d = rw (← e, eq-eqb _ _ d)
 
--- ---- the guess, which is held where it counts
--- x is the row of the claim's way
-module _ (x : RowRead) (w : WayRead) (e : row_is x ≡ row (way_is w)) where
-  pub guess_known : x.claims ≡ Verifier → true ≡ guess_counts (row (way_is w)).claims
-  guess_known f = rw (← e, f)
-
-  pub guess_unknown : {t : TargetRead} → x.claims ≡ Derived t → false ≡ guess_counts (row (way_is w)).claims
-  guess_unknown f = rw (← e, f)
-
-module _ (f : List ℕ) (c : Claim) (q : ℕ) {b : Bool} (e : b ≡ guess_counts (row (way_is c.way)).claims) where
-  pub guess_held : {f' : List ℕ} → b ≡ true → f' ≡ holding f c.guess q → f' ≡ with_guess f c q
-  guess_held d h = rw (← e, d) h
-
-  pub guess_left : b ≡ false → f ≡ with_guess f c q
-  guess_left d = rw (← e, d)
+pub ruleset holds = (held_already, held_now)
 
 -- ---- what a look tells
 module _ {s : List ℕ} {n : ℕ} {f : List ℕ} (h : Lowest s n f) (t : ℕ) (l : t < 256) where
@@ -87,10 +70,18 @@ module _ {s : List ℕ} {n : ℕ} {f : List ℕ} (h : Lowest s n f) (t : ℕ) (l
       go true e = ap is_some (held_none (eqb-true _ 255 e))
       go false e = let (q, g) = held_some (eqb-false _ 255 e) in ap is_some g
 
+-- and the answer to a look
+pub held_in : (f : List ℕ) (t : ℕ) → is_held (register_in f t) ≡ not (eqb (get_or f t 0) 255)
+held_in f t = go (eqb (get_or f t 0) 255)
+  where
+    go : (d : Bool) → is_held (cond d None (Some (get_or f t 0))) ≡ not d
+    go true = refl
+    go false = refl
+
 -- ---- the first n registers, from none on
-pub lowest_none : {s : List ℕ} {r : Registers} → Unused r → Lowest s 0 r.first
+pub registered_none : {s : List ℕ} {r : Registers} → Unused r → Registered s 0 r
 unfolding first first_from
-lowest_none u = record { few = omega arith; each = u.first }
+registered_none u = record { used = u.used; first = record { few = omega arith; each = u.first } }
 
 in_range_lem : (f : List ℕ) (t : ℕ) → get_or f t 0 ≡ 255 → t < length f
 in_range_lem f t e =
@@ -138,26 +129,31 @@ lowest_same {s} {n} b h z = record {
 }
 
 -- ---- the registers in the order in which they are written: the knowledge, the guess, the results of the steps
-module _ {s : List ℕ} {f' : List ℕ} (k : Limited s) {n i : ℕ} where
-  pub entry_written : {f : List ℕ} {t : ℕ} → n ≡ entries s → i < n → Lowest s i f → t ≡ entry_at s i → f' ≡ holding f t i → Lowest s (i + 1) f'
-  entry_written e l h x a = rw a (lowest_more (omega arith) h (counts_other s i (λ q. omega arith)) (x ∙ sym (entry_register s i (omega arith))))
+-- the next register is held
+written_more : {s : List ℕ} {n t : ℕ} {r r' : Registers} → n < 255 → Registered s n r → register_counts s n ≡ true → t ≡ register_term s n → Held r t r' → Registered s (n + 1) r'
+written_more b h z e k = record { used = rw (k.used, h.used); first = rw (k.first, h.used) (lowest_more b h.first z e) }
 
-  pub guess_written : {f : List ℕ} {c : Claim} → n ≡ entries s → i ≤ n → n ≤ i → Lowest s i f → IsClaim s c → f' ≡ with_guess f c n →
-      Registered s (written s 0) (record { first = f'; used = n + 1 })
-  guess_written {f} {c} e l m h x a =
-      let z : i ≡ entries s = omega arith in
-      let w : claims s ≡ (row (way_is c.way)).claims = ap claims_in x.way in
-      record { used = rw (e, add-zero); first = rw (a, e, add-zero) (go (guess_counts (row (way_is c.way)).claims) (counts_guess s ∙ ap guess_counts w) (rw z at h)) }
-    where
-      go : (b : Bool) → register_counts s (entries s) ≡ b → Lowest s (entries s) f → Lowest s (entries s + 1) (cond b (holding f c.guess (entries s)) f)
-      go true q h = lowest_more (omega (arith, k.entries)) h q (x.guessed ∙ sym (guess_register s))
-      go false q h = lowest_same (omega (arith, k.entries)) h q
+-- whether the guess's register counts
+guess_counts_in : {s : List ℕ} {c : Claim} {b d : Bool} → IsClaim s c → b ≡ guess_counts (row (way_is c.way)).claims → b ≡ d → register_counts s (entries s) ≡ d
+guess_counts_in {s} x e f = counts_guess s ∙ ap guess_counts (ap claims_in x.way) ∙ sym e ∙ f
 
-  pub result_written : {r : Registers} {st : Step} → n ≡ steps s → i < n → Registered s (written s i) r → IsStep s i st → f' ≡ holding r.first st.conclusion r.used →
-      Registered s (written s (i + 1)) (record { first = f'; used = r.used + 1 })
-  result_written e l h x a =
+module _ {s : List ℕ} {r r' : Registers} where
+  pub entry_written : {i n t : ℕ} → Limited s → n ≡ entries s → i < n → Registered s i r → t ≡ entry_at s i → Held r t r' → Registered s (i + 1) r'
+  entry_written {i} k m l h x a = written_more (omega (arith, k.entries)) h (counts_other s i (λ q. omega arith)) (x ∙ sym (entry_register s i (omega arith))) a
+
+  module _ {c : Claim} {b : Bool} {i n : ℕ} (k : Limited s) (x : IsClaim s c) (e : b ≡ guess_counts (row (way_is c.way)).claims) (m : n ≡ entries s) (l : n ≤ i) (u : i ≤ n) (h : Registered s i r) where
+    pub guess_written : b ≡ true → Held r c.guess r' → Registered s (written s 0) r'
+    guess_written d a =
+        let z : i ≡ entries s = omega arith in
+        rw add-zero (written_more (omega (arith, k.entries)) (rw z at h) (guess_counts_in x e d) (x.guessed ∙ sym (guess_register s)) a)
+
+    pub guess_skipped : b ≡ false → r'.first ≡ r.first → r'.used ≡ r.used + 1 → Registered s (written s 0) r'
+    guess_skipped d f v =
+        let z : i ≡ entries s = omega arith in
+        let g : Registered s (entries s) r = rw z at h in
+        rw add-zero (record { used = rw (v, g.used); first = rw f (lowest_same (omega (arith, k.entries)) g.first (guess_counts_in x e d)) })
+
+  pub result_written : {i n : ℕ} {st : Step} → Limited s → n ≡ steps s → i < n → Registered s (written s i) r → IsStep s i st → Held r st.conclusion r' → Registered s (written s (i + 1)) r'
+  result_written {i} k m l h x a =
       let z : written s i + 1 ≡ written s (i + 1) = omega arith in
-      record {
-        used = ap (λ u. u + 1) h.used ∙ z;
-        first = rw (a, h.used, ← z) (lowest_more (omega arith) h.first (counts_other s (written s i) (λ q. omega arith)) (x.conclusion ∙ sym (result_register s i)));
-      }
+      rw (← z) (written_more (omega (arith, k.entries, k.steps)) h (counts_other s (written s i) (λ q. omega arith)) (x.conclusion ∙ sym (result_register s i)) a)

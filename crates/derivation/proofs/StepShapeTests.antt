@@ -1,24 +1,19 @@
 -- Check 6 of a step, read off its record one test at a time.
 use mathlib.Core.Path.{◌≡◌, sym, ap, ◌∙◌}
-use mathlib.Core.Bool.{Bool, true, false, ◌&&◌, not, and-false}
+use mathlib.Core.Bool.{Bool, ◌&&◌}
 use mathlib.Core.List.{List}
-use Prim.Native.Nat.{ℕ, ◌≤◌, ◌<◌}
+use Prim.Native.Nat.{ℕ, ◌<◌}
 use lib.Dec.{eqb}
-use borrow.Author.Tests.{lt-ltb, le-ltb, ltb-true}
 use Rattle.base.proofs.Says.{says_eqb, same_test}
 use Rattle.term.specs.Term.{symmetric, asymmetric, left, right, Form, encryption, Head, make, part, decrypt, compound}
 use Rattle.term.specs.{Number.shape_of, Computed.kind_of}
 use Rattle.term.specs.Code.{builder_of, rule_of}
 use Rattle.term.specs.Number.{rules, head_of}
-use Rattle.term.proofs.Kind.{says_builder}
+use Rattle.term.proofs.KindLaws.{says_builder}
 use Rattle.term.proofs.Rule.{head_rule, rule_head}
-use Rattle.submission.specs.Record.{terms}
 use Rattle.submission.specs.Code.{IsTerm}
 use Rattle.submission.specs.declared.Term.{Term}
-use Rattle.derivation.specs.declared.Step.{Step}
-use Rattle.derivation.specs.Computed.{is_record, follows, bad_step}
-use Rattle.derivation.specs.Code.{IsStep}
-use Rattle.term.specs.Computed.{is_rule}
+use Rattle.derivation.specs.Computed.{is_record, follows}
 
 -- ---- the table of steps, read off the records of the first premise and the conclusion
 module _ {s : List ℕ} {n : ℕ} {t : Term} (h : IsTerm s n t) where
@@ -41,34 +36,3 @@ module _ {s : List ℕ} {n : ℕ} {t : Term} (h : IsTerm s n t) where
       go (part right) e = absurd (b e)
       go (decrypt symmetric) e = absurd (c e)
       go (decrypt asymmetric) e = absurd (d e)
-
--- ---- the tests, one after the other
-module _ {s : List ℕ} {i : ℕ} {r : Step} (h : IsStep s i r) where
-  module _ {b : Bool} (e : b ≡ is_rule r.rule) where
-    pub bad_rule : b ≡ false → true ≡ bad_step s i
-    unfolding bad_step
-    bad_rule f = rw (← h.rule, ← e, f)
-
-    -- the rule is one
-    pub good_rule : b ≡ true → r.rule < rules
-    good_rule f = ltb-true _ _ (sym e ∙ f)
-
-  module _ {t : ℕ} (e : t ≡ terms s) where
-    pub bad_first : t ≤ r.p → true ≡ bad_step s i
-    unfolding bad_step
-    bad_first l = simp (← h.first, ← e, le-ltb _ _ l, and-false)
-
-    pub bad_second : t ≤ r.q → true ≡ bad_step s i
-    unfolding bad_step
-    bad_second l = simp (← h.second, ← e, le-ltb _ _ l, and-false)
-
-    pub bad_conclusion : t ≤ r.conclusion → true ≡ bad_step s i
-    unfolding bad_step
-    bad_conclusion l = simp (← h.conclusion, ← e, le-ltb _ _ l, and-false)
-
-    -- the numbers are right, so the shape decides
-    pub bad_shape : {b : Bool} → r.rule < rules → r.p < t → r.q < t → r.conclusion < t
-        → b ≡ follows s (head_of r.rule) r.p r.q r.conclusion → not b ≡ bad_step s i
-    unfolding bad_step
-    bad_shape k l m n f =
-        rw (f, ← h.rule, ← h.first, ← h.second, ← h.conclusion, ← e, lt-ltb _ _ k, lt-ltb _ _ l, lt-ltb _ _ m, lt-ltb _ _ n)

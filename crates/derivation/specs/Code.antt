@@ -1,14 +1,13 @@
 -- What the code's records mean in document 01's terms.
 use mathlib.Core.{Path.◌≡◌, Bool.cond, List.List}
-use Rattle.std.specs.Prelude.{ℕ, ◌<◌}
+use Rattle.std.specs.Prelude.{ℕ, ◌<◌, ◌+◌, Result, Ok, Option as Maybe, Some, None}
 use lib.{Dec.eqb, ListN.get_or, ListN.set}
 use Rattle.base.specs.{Computed.or_none, Computed.Check, Computed.fails_if, Computed.and_then, Code.check_of}
-use Rattle.submission.specs.{declared.Claim.Claim, Record.steps, Record.rule_at, Record.p_at, Record.q_at, Record.conclusion_at, Check.row, Code.way_is}
-use Rattle.base.specs.declared.Stage.TheVariants.{Passed}
+use Rattle.submission.specs.{Record.steps, Record.rule_at, Record.p_at, Record.q_at, Record.conclusion_at}
+use Rattle.base.specs.declared.refusal.Refusal.{Refusal}
 use Rattle.derivation.specs.declared.Step.{Step}
 use Rattle.derivation.specs.declared.Registers.{Registers}
-use Rattle.derivation.specs.declared.StepsAnswer.{StepsAnswer}
-use Rattle.derivation.specs.{Step.guess_counts, Step.written, Computed.lowest_among, Computed.bad_step, Computed.unfounded, Computed.check_steps}
+use Rattle.derivation.specs.{Step.written, Computed.lowest_among, Computed.bad_step, Computed.unfounded, Computed.check_steps}
 
 -- r holds step i
 pub record IsStep (s : List ℕ) (i : ℕ) (r : Step) : Type 0 where
@@ -32,19 +31,24 @@ pub record Unused (r : Registers) : Type 0 where
   pub used : r.used ≡ 0
   pub first : (t : ℕ) → t < 256 → get_or r.first t 0 ≡ 255
 
+-- the lowest register that holds the term t, where first has one
+abbrev pub register_in : List ℕ → ℕ → Maybe ℕ
+register_in first t = cond (eqb (get_or first t 0) 255) None (Some (get_or first t 0))
+
 -- first, once the next register q holds the term t
 unfoldable pub holding : List ℕ → ℕ → ℕ → List ℕ
 holding first t q = cond (eqb (get_or first t 0) 255) (set first t q) first
 
--- first, once the guess's register q is written: it holds the guess where that counts
-abbrev pub with_guess : List ℕ → Claim → ℕ → List ℕ
-with_guess first c q = cond (guess_counts (row (way_is c.way)).claims) (holding first c.guess q) first
+-- new is old, once its next register holds the term t
+pub record Held (old : Registers) (t : ℕ) (new : Registers) : Type 0 where
+  pub first : new.first ≡ holding old.first t old.used
+  pub used : new.used ≡ old.used + 1
 
 -- step i's 6, then its 7
 abbrev pub check_step : List ℕ → ℕ → Check
 check_step s i = and_then (fails_if (bad_step s i) 6 i) (fails_if (unfounded s i) 7 i)
 
--- r is the answer of checks 6 and 7, with the registers after the last step where they pass
-pub record StepsChecked (s : List ℕ) (r : StepsAnswer) : Type 0 where
-  pub answer : check_of r.stage ≡ check_steps s
-  pub registers : r.stage ≡ Passed → Registered s (written s (steps s)) r.registers
+-- r is the result of checks 6 and 7, with the registers after the last step where they pass
+pub record StepsChecked (s : List ℕ) (r : Result Registers Refusal) : Type 0 where
+  pub answer : check_of r ≡ check_steps s
+  pub registers : (g : Registers) → r ≡ Ok g → Registered s (written s (steps s)) g

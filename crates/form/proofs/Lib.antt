@@ -1,2 +1,3 @@
+pub mod ContentsReturns
 pub mod WriteReturns
 pub mod Theory

@@ -1,5 +1,5 @@
 -- What the code's arrays mean.
-use Rattle.std.specs.Prelude.{◌≡◌, ◌⊎◌, ◌≤◌, ◌<◌}
+use Rattle.std.specs.Prelude.{◌≡◌, ◌⊎◌, ◌≤◌, ◌<◌, Option, Some, None}
 use Rattle.base.specs.Words.{true, false, cond, List, ℕ, length, get_or}
 use Rattle.term.specs.{Term.asymmetric, Term.is_key_for, Number.shape_of}
 use Rattle.submission.specs.{Record.terms, Record.kind_at, Record.y_at, Computed.are_inverse}
@@ -13,6 +13,11 @@ key_chain s n = cond (is_key_for asymmetric (shape_of (kind_at s n))) (y_at s n)
 pub record InverseAmong (s : List ℕ) (n i b : ℕ) : Type 0 where
   pub is : (b ≡ 255) ⊎ ((b < i) × (are_inverse s n b ≡ true))
   pub none : b ≡ 255 → (j : ℕ) → j < i → are_inverse s n j ≡ false
+
+-- o is the number of an inverse of term k among the earlier terms, if there is one
+abbrev pub EarlierInverse : List ℕ → ℕ → Option ℕ → Type 0
+EarlierInverse s k None = (j : ℕ) → j < k → are_inverse s k j ≡ false
+EarlierInverse s k (Some j) = (j < k) × (are_inverse s k j ≡ true)
 
 -- l has for each of the first i terms its inverse among them
 pub record Found (s : List ℕ) (i : ℕ) (l : List ℕ) : Type 0 where

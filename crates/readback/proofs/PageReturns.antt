@@ -7,21 +7,15 @@ use native.Mathlib.Omega.{arith}
 use lib.ListN.{length}
 use lib.Seq.{take_all}
 use borrow.Author.Tests.{lt-ltb, le-ltb}
-use Rattle.base.specs.declared.Answer.{Answer as AnswerGiven}
-use Rattle.base.specs.declared.Answer.TheVariants as given
-use Rattle.base.specs.declared.Stage.{Stage}
-use Rattle.base.specs.declared.Stage.TheVariants as stage
-use Rattle.base.specs.{Words.byte, Words.Bytes, Words.first, Answer.done, Answer.answer_of, Answer.Puts, Code.check_of, Computed.fails_at, Computed.fails_if, Computed.passes, Computed.answered}
-use Rattle.base.proofs.{AnswerLaws.if_passes, PutLaws.puts_front, PutLaws.puts_then}
-use Rattle.submission.specs.{Computed.checks1to5, Code.SubmissionRead, Code.ReadingIs, Code.reading_check}
-use Rattle.submission.specs.declared.Claim.{Claim}
-use Rattle.submission.specs.declared.Reading.{Reading}
-use Rattle.submission.specs.declared.Reading.TheVariants as reading
+use Rattle.std.specs.Prelude.{Result, Ok, Err}
+use Rattle.base.specs.declared.refusal.Refusal.{Refusal}
+use Rattle.base.specs.declared.refusal.Fault.TheVariants.{Page}
+use Rattle.base.specs.declared.writer.Writer.{Writer}
+use Rattle.base.specs.{Words.byte, Words.first, Answer.Wrote, Answer.answer_of, Answer.refused, Answer.number_of, Code.check_of, Computed.Check, Computed.passes, Computed.fails, Computed.fails_at, Computed.fails_if, Computed.check_room, Computed.and_then}
+use Rattle.base.proofs.{AnswerLaws.if_passes, AnswerLaws.fails_not_passes, PutLaws.puts_front, PutLaws.wrote_then, PutLaws.wrote_out}
+use Rattle.submission.specs.{Computed.checks1to5, Code.SubmissionRead}
 use Rattle.derivation.specs.Step.{written}
-use Rattle.program.specs.declared.Asked.{Asked}
-use Rattle.program.specs.declared.Asked.TheVariants.{Nothing}
-use Rattle.program.specs.{Program.test_at, Code.relation_in, Code.asked, Computed.bad_program}
-use Rattle.program.proofs.Theory.Check13.{program_bad}
+use Rattle.program.specs.{Program.test_at, Computed.bad_program}
 use Rattle.machine.specs.Code.{RegisterNumbers}
 use Rattle.readback.specs.ReadBack.{steps_read, claim_read, bodies_read, bodies_length}
 use Rattle.readback.specs.Computed.{off_table, no_claim, read_back_answer}
@@ -35,52 +29,45 @@ module _ {s P l : List ℕ} (page : List ℕ) {b n : ℕ} (z : Claimable s P l) 
   abbrev q : Numbered s P l
   q = z.numbered
 
-  pub page_short : length page < n → BodiesWritten s P page (given.Refused 11 n) page
+  pub page_short : {x : Refusal} → length page < n → x.fault ≡ Page → x.place ≡ n → BodiesWritten s P page (Err x) page
   unfolding read_back_answer
-  page_short h =
+  page_short h u v =
       let g : n ≡ bodies_length (byte P 0) = f ∙ ap bodies_length e in
       let k = lt-ltb (length page) (bodies_length (byte P 0)) (omega arith) in
-      record { answer = rw (q.read.passed, q.good, q.table, z.claimed, k, g); bytes = rw (q.read.passed, q.good, q.table, z.claimed, k) }
+      record { answer = rw (u, v, q.read.passed, q.good, q.table, z.claimed, k, g); bytes = rw (q.read.passed, q.good, q.table, z.claimed, k) }
 
-  pub page_written : {page₁ page₂ : List ℕ} {at at' : ℕ} → n ≤ length page → Puts page 0 (steps_read s P (byte P 0)) page₁ at → Puts page₁ at (claim_read s P) page₂ at' → BodiesWritten s P page (given.Done n) page₂
+  pub page_written : {u v : Writer} {page' : List ℕ} {w : Writer} → n ≤ length page → Wrote u (steps_read s P (byte P 0)) v → Wrote v (claim_read s P) w → u.buffer.now ≡ page → u.at ≡ 0 → page' ≡ w.buffer.now →
+      BodiesWritten s P page (Ok n) page'
   unfolding read_back_answer
-  page_written h d c =
+  page_written h d c i j m =
       let g : n ≡ bodies_length (byte P 0) = f ∙ ap bodies_length e in
       let k = le-ltb (length page) (bodies_length (byte P 0)) (omega arith) in
       record {
         answer = rw (q.read.passed, q.good, q.table, z.claimed, k, g);
-        bytes = rw (q.read.passed, q.good, q.table, z.claimed, k) (puts_front (puts_then d c) ∙ rw (take_all (length page) (bodies_read s P) (omega (arith, bodies_length_lem s P))));
+        bytes = rw (q.read.passed, q.good, q.table, z.claimed, k) (puts_front (wrote_out (wrote_then d c) i j m) ∙ rw (take_all (length page) (bodies_read s P) (omega (arith, bodies_length_lem s P))));
       }
 
 -- ---- checks 17 and 18
-module _ (s P page : List ℕ) where
-  module _ (w : SubmissionRead s) (g : bad_program s P ≡ false) {u : Stage} (e : check_of u ≡ fails_at 17 (first (off_table s P) (written s (byte P 0)))) where
-    pub listed_out : (r : AnswerGiven) {m q : ℕ} → u ≡ stage.Refused m q → answer_of r ≡ answered (check_of u) (done 0) → BodiesWritten s P page r page
-    unfolding read_back_answer
-    listed_out r p h = record { answer = h ∙ rw (w.passed, g, ← e, p); bytes = rw (w.passed, g, ← e, p) }
+-- a refusal of the first two checks is that of all three
+stays_refused : (c d e : Check) {n p : ℕ} → and_then c d ≡ fails n p → and_then c (and_then d e) ≡ fails n p
+stays_refused passes passes e h = fails_not_passes (sym h)
+stays_refused passes (fails n p) e h = h
+stays_refused (fails n p) d e h = h
 
-    module _ (t : u ≡ stage.Passed) {v : Stage} (f : check_of v ≡ fails_if (no_claim s (test_at P)) 18 0) where
-      pub claim_out : (r : AnswerGiven) {m q : ℕ} → v ≡ stage.Refused m q → answer_of r ≡ answered (check_of v) (done 0) → BodiesWritten s P page r page
-      unfolding read_back_answer
-      claim_out r p h = record { answer = h ∙ rw (w.passed, g, ← e, t, ← f, p); bytes = rw (w.passed, g, ← e, t, ← f, p) }
+pub claimable : {s P l : List ℕ} {T U : Type 0} {u : Result T Refusal} {v : Result U Refusal} {x : T} {y : U} → SubmissionRead s → bad_program s P ≡ false → RegisterNumbers s P l →
+    check_of u ≡ fails_at 17 (first (off_table s P) (written s (byte P 0))) → u ≡ Ok x → check_of v ≡ fails_if (no_claim s (test_at P)) 18 0 → v ≡ Ok y → Claimable s P l
+claimable w g z e t f p = record { numbered = all_numbered w g z e t; claimed = (if_passes _ 18 0).0 (sym f ∙ ap check_of p) }
 
-      pub claimable : {l : List ℕ} → RegisterNumbers s P l → v ≡ stage.Passed → Claimable s P l
-      claimable z p = record { numbered = all_numbered w g z u e t; claimed = (if_passes _ 18 0).0 (sym f ∙ ap check_of p) }
-
--- ---- checks 1 to 5, and 13
-module _ (s P page : List ℕ) {rd : Reading} (e : ReadingIs s (checks1to5 s) rd) where
-  pub reading_out : {m k : ℕ} (u : Stage) (r : AnswerGiven) → rd ≡ reading.Refused m k → check_of u ≡ reading_check rd → answer_of r ≡ answered (check_of u) (done 0) → BodiesWritten s P page r page
+-- ---- a refusal x goes straight out
+module _ (s P page : List ℕ) (r : Result ℕ Refusal) {T : Type 0} {u : Result T Refusal} {x : Refusal} (h : u ≡ Err x) (f : answer_of r ≡ refused (number_of x.fault) x.place) where
+  -- of checks 1 to 5, and 13
+  pub checked_out : check_of u ≡ and_then (checks1to5 s) (fails_if (bad_program s P) 13 0) → BodiesWritten s P page r page
   unfolding read_back_answer
-  reading_out u r p f h = record { answer = h ∙ rw (f, ← e.answer, p); bytes = rw (← e.answer, p) }
+  checked_out e = record { answer = f ∙ rw (← e, h); bytes = rw (← e, h) }
 
-  module _ {k : Claim} (p : rd ≡ reading.Good k) where
-    reading_passes : checks1to5 s ≡ passes
-    reading_passes = sym e.answer ∙ ap reading_check p
-
-    pub submission_read : Bytes s → SubmissionRead s
-    submission_read b = record { bytes = b; passed = reading_passes }
-
-    module _ {o : Asked} (g : relation_in o ≡ asked s P) where
-      pub program_out : o ≡ Nothing → BodiesWritten s P page (given.Refused 13 0) page
-      unfolding read_back_answer
-      program_out t = let b = program_bad s P g t in record { answer = rw (reading_passes, b); bytes = rw (reading_passes, b) }
+  -- of checks 17 and 18
+  pub readable_out : SubmissionRead s → bad_program s P ≡ false → check_of u ≡ and_then (fails_at 17 (first (off_table s P) (written s (byte P 0)))) (fails_if (no_claim s (test_at P)) 18 0) → BodiesWritten s P page r page
+  unfolding read_back_answer
+  readable_out w g e =
+      let z = stays_refused (fails_at 17 (first (off_table s P) (written s (byte P 0)))) (fails_if (no_claim s (test_at P)) 18 0) (check_room (bodies_length (byte P 0)) (length page)) (sym e ∙ ap check_of h) in
+      record { answer = f ∙ rw (w.passed, g, z); bytes = rw (w.passed, g, z) }

@@ -12,20 +12,18 @@ use lib.Dec.{eqb, ltb}
 use lib.ListN.{get_or}
 use mir.Syntax.{w8}
 use mir.Val.{Fits}
-use borrow.Author.Tests.{lt-ltb, le-ltb, eq-eqb, ne_eqb}
-use Rattle.base.specs.{Words.byte, Words.first, Answer.Puts, Code.check_of, Computed.fails, Computed.passes, Computed.fails_at, Computed.fails_if}
-use Rattle.base.specs.declared.Stage.{Stage}
-use Rattle.base.specs.declared.Stage.TheVariants as stage
-use Rattle.base.proofs.{Order.lt_or_ge, Says.denies, Says.none_fails, AnswerLaws.at_passes, PutLaws.puts_none, PutLaws.puts_then}
-use Rattle.term.specs.{Term.equal, Code.relation_is, Number.has_one}
+use Rattle.base.specs.{Words.byte, Words.first, Answer.Wrote, Code.check_of, Computed.fails_at}
+use Rattle.std.specs.Prelude.{Result, Ok}
+use Rattle.base.specs.declared.refusal.Refusal.{Refusal}
+use Rattle.base.specs.declared.writer.Writer.{Writer}
+use Rattle.base.proofs.{Order.lt_or_ge, Says.denies, Says.none_fails, AnswerLaws.at_passes, PutLaws.wrote_none, PutLaws.wrote_then}
+use Rattle.term.specs.{Code.relation_is, Number.has_one}
 use Rattle.term.specs.declared.Relation.{Relation as RelationGiven}
-use Rattle.term.specs.declared.Relation.TheVariants.{Equal, Inverse}
-use Rattle.submission.specs.{Record.terms, Record.entries, Code.SubmissionRead, Code.way_is, Code.range_is, Code.row_is, Code.IsClaimBytes, Check.row, Check.inverse_derived, Check.inverse_key, Check.knowledge_step}
+use Rattle.submission.specs.{Record.terms, Record.entries, Code.SubmissionRead, Code.way_is, Code.range_is, Code.row_is, Code.IsClaim, Check.row}
 use Rattle.submission.specs.declared.Range.{Range as RangeRead}
-use Rattle.submission.specs.declared.Range.TheVariants.{Step, StepOrKnowledge}
 use Rattle.submission.specs.declared.Row.{Row as RowRead}
 use Rattle.submission.specs.declared.Way.{Way as WayRead}
-use Rattle.submission.specs.declared.ClaimBytes.{ClaimBytes}
+use Rattle.submission.specs.declared.Claim.{Claim}
 use Rattle.derivation.specs.Step.{written}
 use Rattle.program.specs.declared.Instruction.{Instruction as InstructionRead}
 use Rattle.program.specs.declared.Test.{Test as TestRead}
@@ -33,44 +31,26 @@ use Rattle.program.specs.{Program.relation_of, Program.instruction_at, Program.t
 use Rattle.program.proofs.Theory.Check13.{program_iff, right_fits}
 use Rattle.machine.specs.Code.{RegisterNumbers}
 use Rattle.machine.proofs.Theory.StartState.{facts}
-use Rattle.readback.specs.ReadBack.{step_of, number, step_read, steps_read, way_from, way_read, verifying_read, companion_read, claim_read}
-use Rattle.readback.specs.Computed.{off_table, no_claim}
-use Rattle.readback.specs.Code.{RegisterCount, Numbered}
+use Rattle.readback.specs.ReadBack.{number, step_read, steps_read, way_from, way_read, verifying_read, companion_read, claim_read}
+use Rattle.readback.specs.Computed.{off_table}
+use Rattle.readback.specs.Code.{Numbered}
 use Rattle.readback.proofs.Theory.ReadBackAnswer.{says_off_table, number_is, listed_on}
 
--- ---- a register's number: k is r, made wide
-module _ (l : List ℕ) {k r : ℕ} (e : k ≡ r) where
-  pub number_fits : get_or l r 0 < 256 → Fits w8 (get_or l k 0)
-  number_fits h = record { fits = rw e h }
-
-  pub number_same : get_or l k 0 ≡ get_or l r 0
-  number_same = ap (λ k. get_or l k 0) e
-
-module _ (l : List ℕ) (i : InstructionRead) {b : Bool} (e : b ≡ has_one i.rule) where
-  pub no_second : b ≡ true → 0 ≡ cond (has_one i.rule) 0 (get_or l i.right 0)
-  no_second t = rw (← e, t)
-
-  pub second_small : b ≡ false → (has_one i.rule ≡ false → get_or l i.right 0 < 256) → get_or l i.right 0 < 256
-  second_small t h = h (sym e ∙ t)
-
-  pub second_is : {n : ℕ} → b ≡ false → n ≡ get_or l i.right 0 → n ≡ cond (has_one i.rule) 0 (get_or l i.right 0)
-  second_is t h = rw (← e, t) h
-
 -- ---- check 17: v terms and n registers were counted
-module _ {s P l : List ℕ} {t v n : ℕ} (z : RegisterNumbers s P l) (te : t ≡ terms s) (ve : v ≡ t) (ne : RegisterCount s P n) {r : ℕ} (b : r < n) where
-  pub off_found : v ≤ get_or l r 0 → off_table s P r ≡ true
-  off_found c = (says_off_table s P r).1 (λ k m h. z.unlisted r (omega (arith, ne.is)) (omega arith) k m (sym h))
+module _ {s P l : List ℕ} {t v n : ℕ} (z : RegisterNumbers s P l) (te : t ≡ terms s) (ve : v ≡ t) (ne : n ≡ written s (byte P 0)) {k r : ℕ} (ke : k ≡ r) (b : r < n) where
+  pub off_found : v ≤ get_or l k 0 → off_table s P r ≡ true
+  off_found c = (says_off_table s P r).1 (λ j m h. z.unlisted r (omega arith) (rw (← ke, ← te, ← ve) c) j m (sym h))
 
-  pub on_found : get_or l r 0 < v → off_table s P r ≡ false
-  on_found c = listed_on s P r (get_or l r 0) (omega arith) (sym (z.listed r (omega (arith, ne.is)) (omega arith)))
+  pub on_found : get_or l k 0 < v → off_table s P r ≡ false
+  on_found c = let d : get_or l r 0 < terms s = rw (← ke, ← te, ← ve) c in listed_on s P r (get_or l r 0) d (sym (z.listed r (omega arith) d))
 
 -- there are less than 256 registers
-pub register_in : {s : List ℕ} (P : List ℕ) → SubmissionRead s → bad_program s P ≡ false → {n r : ℕ} → RegisterCount s P n → r < n → r < 256
-register_in {s} P u g e l = omega (arith, e.is, (facts u).read.entries_most, ((program_iff s P).0 g).few)
+pub register_in : {s : List ℕ} (P : List ℕ) → SubmissionRead s → bad_program s P ≡ false → {n r k : ℕ} → n ≡ written s (byte P 0) → k ≡ r → r < n → k < 256
+register_in {s} P u g e f l = omega (arith, e, (facts u).read.entries_most, ((program_iff s P).0 g).few)
 
 -- the registers' numbers, where check 17 passed
-pub all_numbered : {s P l : List ℕ} → SubmissionRead s → bad_program s P ≡ false → RegisterNumbers s P l → (u : Stage) → check_of u ≡ fails_at 17 (first (off_table s P) (written s (byte P 0))) → u ≡ stage.Passed → Numbered s P l
-all_numbered {s} {P} {l} w g z u e p =
+pub all_numbered : {s P l : List ℕ} {T : Type 0} {u : Result T Refusal} {x : T} → SubmissionRead s → bad_program s P ≡ false → RegisterNumbers s P l → check_of u ≡ fails_at 17 (first (off_table s P) (written s (byte P 0))) → u ≡ Ok x → Numbered s P l
+all_numbered {s} {P} {l} w g z e p =
     let on = (at_passes 17 (first (off_table s P) (written s (byte P 0)))).0 (sym e ∙ ap check_of p) in
     let none : (r : ℕ) → r < written s (byte P 0) → off_table s P r ≡ false = (none_fails _ _).0 on in
     let below : (r : ℕ) → r < written s (byte P 0) → get_or l r 0 < terms s = λ r b. ⊎_elim (λ m. m) (λ m. absurd ((denies _ (says_off_table s P r)).0 (none r b) (λ n k h. z.unlisted r b m n k (sym h)))) (lt_or_ge (get_or l r 0) (terms s)) in
@@ -82,51 +62,6 @@ all_numbered {s} {P} {l} w g z u e p =
       below = below;
       is = λ r b. sym (number_is (facts w).read P r (get_or l r 0) (below r b) (sym (z.listed r b (below r b))));
     }
-
--- ---- check 18
-module _ (s : List ℕ) (t : TestRead) {k : ℕ} (e : k ≡ entries s) where
-  pub below_known : t.left < k → true ≡ no_claim s (test_in t)
-  below_known l = rw (lt-ltb t.left (entries s) (omega arith))
-
-  module _ (l : k ≤ t.left) where
-    pub not_guess : (t.left ≡ k → ⊥) → false ≡ no_claim s (test_in t)
-    not_guess d = rw (le-ltb t.left (entries s) (omega arith), ne_eqb t.left (entries s) (λ q. d (q ∙ sym e)))
-
-    pub guess_second : t.left ≡ k → eqb t.right k ≡ no_claim s (test_in t)
-    guess_second q = rw (le-ltb t.left (entries s) (omega arith), eq-eqb t.left (entries s) (q ∙ e), e)
-
-module _ (s P : List ℕ) {t : TestRead} (e : test_in t ≡ test_at P) {b : Bool} (h : b ≡ no_claim s (test_in t)) where
-  pub claim_refused : b ≡ true → fails 18 0 ≡ fails_if (no_claim s (test_at P)) 18 0
-  claim_refused q = rw (← e, ← h, q)
-
-  pub claim_passed : b ≡ false → passes ≡ fails_if (no_claim s (test_at P)) 18 0
-  claim_passed q = rw (← e, ← h, q)
-
--- ---- the parts of the claim
-module _ (s : List ℕ) {r k : ℕ} (e : k ≡ entries s) where
-  pub knowledge_step_lem : r < k → knowledge_step ≡ cond (ltb r (entries s)) knowledge_step (step_of s r)
-  knowledge_step_lem l = rw (lt-ltb r (entries s) (omega arith))
-
-  pub other_step : {n : ℕ} → k ≤ r → n ≡ step_of s r → n ≡ cond (ltb r (entries s)) knowledge_step (step_of s r)
-  other_step l h = rw (le-ltb r (entries s) (omega arith)) h
-
-module _ (s : List ℕ) (t : TestRead) {o : RangeRead} {n : ℕ} where
-  pub first_step : o ≡ Step → n ≡ step_of s t.left → n ≡ verifying_read s (test_in t) (range_is o)
-  first_step q h = rw q h
-
-  pub second_step : o ≡ StepOrKnowledge → n ≡ cond (ltb t.right (entries s)) knowledge_step (step_of s t.right) → n ≡ verifying_read s (test_in t) (range_is o)
-  second_step q h = rw q h
-
-pub companion_step : (s : List ℕ) (r n : ℕ) {o : RangeRead} {m : ℕ} → o ≡ Step → m ≡ step_of s r → m ≡ companion_read s r n (range_is o)
-companion_step s r n q h = rw q h
-
--- the way, by what the test asks
-module _ (s : List ℕ) (t : TestRead) {k : ℕ} (e : k ≡ entries s) {ρ : RelationGiven} (w : WayRead) where
-  pub way_equal : ρ ≡ Equal → way_is w ≡ way_from (some equal) (eqb t.left k) (ltb k t.right) → way_is w ≡ way_from (some (relation_is ρ)) (eqb t.left (entries s)) (ltb (entries s) t.right)
-  way_equal q h = rw q (rw e at h)
-
-  pub way_inverse : ρ ≡ Inverse → way_is w ≡ cond (eqb t.left k) inverse_derived inverse_key → way_is w ≡ way_from (some (relation_is ρ)) (eqb t.left (entries s)) (ltb (entries s) t.right)
-  way_inverse q h = rw q (rw e at h)
 
 -- ---- the records
 module _ {s P l : List ℕ} (z : Numbered s P l) where
@@ -167,8 +102,8 @@ module _ {s P l : List ℕ} (z : Numbered s P l) where
       pub right_number : has_one x.rule ≡ false → get_or l x.right 0 < 256
       right_number h = byte_number x.right (right_below h)
 
-      pub step_put : {a a' : List ℕ} {at at' k p q n : ℕ} → k ≡ entries s → p ≡ get_or l x.left 0 → q ≡ cond (has_one x.rule) 0 (get_or l x.right 0) → n ≡ get_or l (k + 1 + i) 0 →
-          Puts a at (x.rule ∷ p ∷ q ∷ n ∷ []) a' at' → Puts a at (step_read s P i) a' at'
+      pub step_put : {u v : Writer} {k p q n : ℕ} → k ≡ entries s → p ≡ get_or l x.left 0 → q ≡ cond (has_one x.rule) 0 (get_or l x.right 0) → n ≡ get_or l (k + 1 + i) 0 →
+          Wrote u (x.rule ∷ p ∷ q ∷ n ∷ []) v → Wrote u (step_read s P i) v
       step_put {p = p} {q} {n} ke pe qe ne put =
           let second : q ≡ cond (has_one x.rule) 0 (number s P x.right) = qe ∙ go (has_one x.rule) refl in
           rw (← e, ← (pe ∙ z.is x.left left_below), ← second, ← (ne ∙ ap (λ k. get_or l (k + 1 + i) 0) ke ∙ z.is (written s i) (omega arith))) put
@@ -185,10 +120,10 @@ module _ {s P l : List ℕ} (z : Numbered s P l) where
     pub test_number : get_or l t.right 0 < 256
     test_number = byte_number t.right test_below
 
-    pub claim_put : {a a' : List ℕ} {at at' step n m : ℕ} (ρ : RelationGiven) (w : WayRead) (x : RowRead) {c : ClaimBytes} {u v : RangeRead} → relation_of (test_at P).rule ≡ some (relation_is ρ) →
-        way_is w ≡ way_from (some (relation_is ρ)) (eqb t.left (entries s)) (ltb (entries s) t.right) → row_is x ≡ row (way_is w) → IsClaimBytes s c → u ≡ x.step → v ≡ x.companion →
+    pub claim_put : {a a' : Writer} {step n m : ℕ} (ρ : RelationGiven) (w : WayRead) (x : RowRead) {c : Claim} {u v : RangeRead} → relation_of (test_at P).rule ≡ some (relation_is ρ) →
+        way_is w ≡ way_from (some (relation_is ρ)) (eqb t.left (entries s)) (ltb (entries s) t.right) → row_is x ≡ row (way_is w) → IsClaim s c → u ≡ x.step → v ≡ x.companion →
         step ≡ verifying_read s (test_in t) (range_is u) → n ≡ get_or l t.right 0 → m ≡ companion_read s t.right n (range_is v) →
-        Puts a at (c.guess ∷ step ∷ x.letter ∷ m ∷ []) a' at' → Puts a at (claim_read s P) a' at'
+        Wrote a (c.guess ∷ step ∷ x.letter ∷ m ∷ []) a' → Wrote a (claim_read s P) a'
     claim_put {step = step} {n} {m} ρ w x {c} re we xe ce ue ve se ne me put =
         let r : relation_of t.letter ≡ some (relation_is ρ) = ap (λ y. relation_of y.rule) e ∙ re in
         let way : way_read s (test_in t) ≡ way_is w = ap (λ o. way_from o (eqb t.left (entries s)) (ltb (entries s) t.right)) r ∙ sym we in
@@ -199,13 +134,13 @@ module _ {s P l : List ℕ} (z : Numbered s P l) where
         rw (← e, way, first, letter, ← number-is', second, ← ce.guessed) put
 
 -- ---- all steps
-pub steps_none : {a : List ℕ} {i : ℕ} (s P : List ℕ) → Puts a i (steps_read s P 0) a i
+pub steps_none : {w : Writer} (s P : List ℕ) → Wrote w (steps_read s P 0) w
 unfolding steps_read
-steps_none s P = puts_none
+steps_none s P = wrote_none
 
-pub steps_more : {a b c : List ℕ} {i j k : ℕ} (s P : List ℕ) (n : ℕ) → Puts a i (steps_read s P n) b j → Puts b j (step_read s P n) c k → Puts a i (steps_read s P (n + 1)) c k
+pub steps_more : {u v w : Writer} (s P : List ℕ) (n : ℕ) → Wrote u (steps_read s P n) v → Wrote v (step_read s P n) w → Wrote u (steps_read s P (n + 1)) w
 unfolding steps_read
-steps_more s P n p q = rw add-one (puts_then p q)
+steps_more s P n p q = rw add-one (wrote_then p q)
 
-pub steps_all : {a b : List ℕ} {i j : ℕ} (s P : List ℕ) (m n : ℕ) → n ≡ byte P 0 → m ≤ n → n ≤ m → Puts a i (steps_read s P m) b j → Puts a i (steps_read s P (byte P 0)) b j
+pub steps_all : {u v : Writer} (s P : List ℕ) (m n : ℕ) → n ≡ byte P 0 → m ≤ n → n ≤ m → Wrote u (steps_read s P m) v → Wrote u (steps_read s P (byte P 0)) v
 steps_all s P m n e l h p = rw (← e, ← (le_antisymm l h)) p

@@ -6,11 +6,6 @@ use Rattle.derivation.specs.Step.{written}
 use Rattle.program.specs.{Program.test_at, Computed.bad_program}
 use Rattle.readback.specs.{ReadBack.number, Computed.off_table, Computed.no_claim}
 
--- r is how many registers a program has; each part of the sum is a byte
-pub record RegisterCount (s P : List ℕ) (r : ℕ) : Type 0 where
-  pub is : r ≡ written s (byte P 0)
-  pub few : r < 512
-
 -- a submission and a program that passed checks 1 to 5, 13 and 17; l has the number of each register's term
 pub record Numbered (s P l : List ℕ) : Type 0 where
   pub read : SubmissionRead s

@@ -4,18 +4,16 @@ use mathlib.Core.Bool.{Bool, true, false, and-false, not}
 use mathlib.Core.List.{List}
 use mathlib.Core.Option.{none}
 use Prim.Native.Nat.{ℕ, ◌≤◌, ◌<◌}
-use native.Mathlib.Omega.{arith}
 use lib.Dec.{eqb, ltb}
 use borrow.Author.Tests.{ne_eqb, lt-ltb, le-ltb}
-use Rattle.base.specs.Computed.{passes, fails, fails_if}
+use Rattle.base.specs.Computed.{fails_if}
 use Rattle.term.specs.Computed.{is_atomic}
 use Rattle.term.specs.Term.{asymmetric, is_key_for}
 use Rattle.term.specs.Number.{shape_of}
 use Rattle.submission.specs.declared.Term.{Term}
 use Rattle.submission.specs.declared.Claim.{Claim}
 use Rattle.submission.specs.declared.ClaimBytes.{ClaimBytes}
-use Rattle.submission.specs.declared.Letter.{Letter}
-use Rattle.submission.specs.declared.Letter.TheVariants.{Stands, Stranger}
+use Rattle.submission.specs.declared.UnknownWay.{UnknownWay}
 use Rattle.submission.specs.declared.Way.{Way as WayRead}
 use Rattle.submission.specs.declared.Range.{Range as RangeRead}
 use Rattle.submission.specs.declared.Range.TheVariants.{Step, Term as TermNumber, Zero, StepOrKnowledge}
@@ -24,24 +22,17 @@ use Rattle.submission.specs.declared.Target.TheVariants.{Guess, Inverse}
 use Rattle.submission.specs.declared.Claims.{Claims as ClaimsRead}
 use Rattle.submission.specs.declared.Claims.TheVariants.{Verifier, Derived}
 use Rattle.submission.specs.declared.Row.{Row as RowRead}
-use Rattle.submission.specs.declared.Reading.{Reading}
-use Rattle.submission.specs.declared.Reading.TheVariants.{Good, Refused}
-use Rattle.base.specs.declared.Stage.{Stage}
-use Rattle.base.specs.declared.Stage.TheVariants as stage
+use Rattle.std.specs.Prelude.{Result, Ok, Err}
+use Rattle.base.specs.declared.refusal.Fault.TheVariants.{Claim as ClaimFault}
+use Rattle.base.specs.declared.refusal.Refusal.{Refusal}
 use Rattle.base.specs.Code.{check_of}
 use Rattle.submission.specs.Record.{terms, steps, kind_at, guess, verifying, way_at}
 use Rattle.submission.specs.Check.{way_of, step_or_knowledge, knowledge_step, row}
 use Rattle.submission.specs.Computed.{in_range, guess_fits, claim_fits, good_claim, checks1to4, checks1to5}
-use Rattle.submission.specs.Code.{IsTerm, way_is, letter_is, claims_is, range_is, row_is, IsClaimBytes, IsClaim, reading_check, ReadingIs}
-
-refused_not_good : {A : Type 0} {number place : ℕ} {c : Claim} → Refused number place ≡ Good c → A
-refused_not_good e = absurd (let z : ◌≡◌ {A = ℕ} 0 1 = cc in omega arith)
-
-good_same : {c d : Claim} → Good c ≡ Good d → c ≡ d
-good_same e = cc
+use Rattle.submission.specs.Code.{IsTerm, way_is, ReadsWay, claims_is, range_is, row_is, IsClaimBytes, IsClaim, ClaimRead}
 
 -- ---- the letters
-pub no_way : {l : ℕ} → (l ≡ 0x61 → ⊥) → (l ≡ 0x62 → ⊥) → (l ≡ 0x63 → ⊥) → (l ≡ 0x6B → ⊥) → (l ≡ 0x6A → ⊥) → none ≡ way_of l
+pub no_way : {l : ℕ} → (l ≡ 0x61 → ⊥) → (l ≡ 0x62 → ⊥) → (l ≡ 0x63 → ⊥) → (l ≡ 0x6B → ⊥) → (l ≡ 0x6A → ⊥) → way_of l ≡ none
 unfolding way_of
 no_way u v w x y = rw (ne_eqb _ _ u, ne_eqb _ _ v, ne_eqb _ _ w, ne_eqb _ _ x, ne_eqb _ _ y)
 
@@ -105,36 +96,29 @@ module _ {s : List ℕ} {c : Claim} (p : IsClaim s c) where
   guess_atom q e h = rw (← p.guessed, ← q.kind, ← e) h
 
 -- ---- check 5
-module _ {s : List ℕ} {b : ClaimBytes} (p : IsClaimBytes s b) {l : Letter} (e : letter_is l ≡ way_of b.letter) where
-  pub stranger_refused : l ≡ Stranger → ReadingIs s (fails_if (not (good_claim s)) 5 0) (Refused 5 0)
+module _ {s : List ℕ} {b : ClaimBytes} (p : IsClaimBytes s b) {r : Result WayRead UnknownWay} (e : ReadsWay b.letter r) where
+  pub stranger_refused : {x : UnknownWay} {y : Refusal} → r ≡ Err x → y.fault ≡ ClaimFault → y.place ≡ 0 → ClaimRead s (fails_if (not (good_claim s)) 5 0) (Err y)
   unfolding good_claim
-  stranger_refused q =
-      let n : way_of (way_at s) ≡ none = ap way_of (sym p.letter) ∙ sym e ∙ ap letter_is q in
-      record { answer = rw (n, and-false, and-false); claim = λ c z. refused_not_good z }
+  stranger_refused q f g =
+      let n : way_of (way_at s) ≡ none = ap way_of (sym p.letter) ∙ (rw q at e) in
+      record { answer = rw (f, g, n, and-false, and-false); claim = λ c z. cc }
 
-  pub claim_read_lem : {w : WayRead} → l ≡ Stands w → IsClaim s (record { guess = b.guess; step = b.step; way = w; companion = b.companion })
-  claim_read_lem q = record { guessed = p.guessed; step = p.step; way = ap way_of (sym p.letter) ∙ sym e ∙ ap letter_is q; other = p.other }
+  pub claim_read_lem : {w : WayRead} → r ≡ Ok w → IsClaim s (record { guess = b.guess; step = b.step; way = w; companion = b.companion })
+  claim_read_lem q = record { guessed = p.guessed; step = p.step; way = ap way_of (sym p.letter) ∙ (rw q at e); other = p.other }
 
 module _ {s : List ℕ} {r : Bool} (e : r ≡ good_claim s) where
-  pub claim_good : {c : Claim} → IsClaim s c → r ≡ true → ReadingIs s (fails_if (not (good_claim s)) 5 0) (Good c)
-  claim_good {c} p q = record { answer = rw (← e, q); claim = λ d z. subst (IsClaim s) (good_same z) p }
+  pub claim_good : {c : Claim} → IsClaim s c → r ≡ true → ClaimRead s (fails_if (not (good_claim s)) 5 0) (Ok c)
+  claim_good {c} p q = record { answer = rw (← e, q); claim = λ d z. let f : c ≡ d = cc in subst (IsClaim s) f p }
 
-  pub claim_bad : r ≡ false → ReadingIs s (fails_if (not (good_claim s)) 5 0) (Refused 5 0)
-  claim_bad q = record { answer = rw (← e, q); claim = λ c z. refused_not_good z }
+  pub claim_bad : {y : Refusal} → r ≡ false → y.fault ≡ ClaimFault → y.place ≡ 0 → ClaimRead s (fails_if (not (good_claim s)) 5 0) (Err y)
+  claim_bad q f g = record { answer = rw (f, g, ← e, q); claim = λ c z. cc }
 
 -- ---- checks 1 to 5
-module _ {s : List ℕ} {u : Stage} (e : check_of u ≡ checks1to4 s) where
-  pub reading_refused : (number place : ℕ) → u ≡ stage.Refused number place → ReadingIs s (checks1to5 s) (Refused number place)
+module _ {s : List ℕ} {u : Result Unit Refusal} (e : check_of u ≡ checks1to4 s) where
+  pub reading_refused : (x : Refusal) → u ≡ Err x → ClaimRead s (checks1to5 s) (Err x)
   unfolding checks1to5
-  reading_refused number place q = record { answer = rw (← e, q); claim = λ c z. refused_not_good z }
+  reading_refused x q = record { answer = rw (← e, q); claim = λ c z. cc }
 
-  pub reading_goes_on : {r : Reading} → u ≡ stage.Passed → ReadingIs s (fails_if (not (good_claim s)) 5 0) r → ReadingIs s (checks1to5 s) r
+  pub reading_goes_on : {r : Result Claim Refusal} {v : Unit} → u ≡ Ok v → ClaimRead s (fails_if (not (good_claim s)) 5 0) r → ClaimRead s (checks1to5 s) r
   unfolding checks1to5
   reading_goes_on q h = record { answer = rw (← e, q) h.answer; claim = h.claim }
-
--- ---- what reading says as a check
-pub reading_passed : {r : Reading} {c : Claim} → r ≡ Good c → passes ≡ reading_check r
-reading_passed e = rw e
-
-pub reading_fails : {r : Reading} {number place : ℕ} → r ≡ Refused number place → fails number place ≡ reading_check r
-reading_fails e = rw e

@@ -4,11 +4,11 @@ use mathlib.Core.Bool.{not}
 use mathlib.Core.List.{List}
 use Prim.Native.Nat.{ℕ}
 use native.Mathlib.Omega.{arith}
-use Rattle.base.specs.declared.Stage.{Stage}
-use Rattle.base.specs.declared.Stage.TheVariants.{Passed}
+use Rattle.std.specs.Prelude.{Result, Ok}
+use Rattle.base.specs.declared.refusal.Refusal.{Refusal}
 use Rattle.base.specs.{Words.Bytes, Code.check_of, Computed.passes, Computed.fails_if}
 use Rattle.submission.specs.Record.{count}
-use Rattle.submission.specs.Code.{TableRead, Limited}
+use Rattle.submission.specs.Code.{TableRead, SubmissionRead, Limited}
 use Rattle.submission.specs.Computed.{checks1to4, checks1to5, good_claim}
 use Rattle.base.proofs.AnswerLaws.{then_passes}
 use Rattle.submission.proofs.Theory.ListedTerms.{pass_2_to_4, within_limits}
@@ -27,5 +27,9 @@ limited s e =
     }
 
 -- checks 1 to 4 passed
-pub table_read : (s : List ℕ) {st : Stage} → Bytes s → check_of st ≡ checks1to4 s → st ≡ Passed → TableRead s
+pub table_read : (s : List ℕ) {T : Type 0} {r : Result T Refusal} {v : T} → Bytes s → check_of r ≡ checks1to4 s → r ≡ Ok v → TableRead s
 table_read s b e p = record { bytes = b; passed = sym e ∙ ap check_of p }
+
+-- and checks 1 to 5
+pub submission_read : (s : List ℕ) {T : Type 0} {r : Result T Refusal} {v : T} → Bytes s → check_of r ≡ checks1to5 s → r ≡ Ok v → SubmissionRead s
+submission_read s b e p = record { bytes = b; passed = sym e ∙ ap check_of p }

@@ -10,13 +10,14 @@ use native.Mathlib.Decide.{ℕ_discrete}
 use native.Mathlib.Omega.{arith}
 use lib.Dec.{eqb, ltb}
 use lib.ListN.{get_or, set}
-use borrow.Author.Tests.{eq-eqb, ne_eqb, lt-ltb, le-ltb}
-use Rattle.base.specs.{Computed.any, Code.is_some, Code.Noted, Code.Chained, Code.Chaining}
-use Rattle.base.proofs.Chains.{Walk, chaining_more, walk_start, walk_end, walk_below, walk_more, walk_less}
+use borrow.Author.Tests.{lt-ltb, le-ltb}
+use Rattle.base.specs.{Computed.any, Code.is_some, Code.Flagged, Code.Chained, Code.Chaining, Code.link_of, Code.byte_of_link}
+use Rattle.base.proofs.Chains.{Linked, chaining_more, walk_start, walk_end, walk_below, walk_more, walk_less, link_back, linked_of, linked_none, linked_at}
+use Rattle.std.specs.Prelude.{Option as Maybe, Some, None}
 use Rattle.base.proofs.First.{first_found}
 use Rattle.base.proofs.Scan.{false_any}
 use Rattle.base.proofs.Says.{denies}
-use Rattle.base.proofs.Stores.{noted_any}
+use Rattle.base.proofs.Stores.{flagged_any}
 use Rattle.term.specs.Term.{Shape, atomic, compound}
 use Rattle.term.specs.Number.{shape_of}
 use Rattle.term.specs.Code.{is_unary, second_of}
@@ -85,18 +86,8 @@ module _ {s : List ℕ} {i : ℕ} {t : Term} (p : IsTerm s i t) {b : Bool} (e : 
         k ∙ rw (q.kind, p.kind, p.y) (two s i (shape_of (kind_at s i)) (atomic_is false h) (unary_is false g) x_earlier (rw (← p.y) (lt-ltb _ _ l)))
 
 -- ---- a repeated record
-module _ {s : List ℕ} {j : ℕ} {u : Term} (t : Term) (q : IsTerm s j u) where
-  pub x_apart : (u.x ≡ t.x → ⊥) → false ≡ (eqb (kind_at s j) t.kind && (eqb (x_at s j) t.x && eqb (y_at s j) t.y))
-  x_apart d = rw (← q.x, ne_eqb _ _ d, and-false)
-
-  pub kind_apart : (u.kind ≡ t.kind → ⊥) → false ≡ (eqb (kind_at s j) t.kind && (eqb (x_at s j) t.x && eqb (y_at s j) t.y))
-  kind_apart d = rw (← q.kind, ne_eqb _ _ d)
-
-  pub y_told : u.x ≡ t.x → u.kind ≡ t.kind → eqb u.y t.y ≡ (eqb (kind_at s j) t.kind && (eqb (x_at s j) t.x && eqb (y_at s j) t.y))
-  y_told e f = rw (← q.kind, ← q.x, eq-eqb _ _ e, eq-eqb _ _ f, q.y)
-
-pub same_record_lem : {s : List ℕ} {i : ℕ} {t : Term} {b r : Bool} (j : ℕ) → IsTerm s i t → b ≡ (eqb (kind_at s j) t.kind && (eqb (x_at s j) t.x && eqb (y_at s j) t.y)) → b ≡ r → same_record s i j ≡ r
-same_record_lem j p e h = rw (← p.kind, ← p.x, ← p.y) (sym e ∙ h)
+pub same_record_lem : {s : List ℕ} {i j : ℕ} {t u : Term} {b r : Bool} → IsTerm s i t → IsTerm s j u → b ≡ (eqb u.kind t.kind && (eqb u.x t.x && eqb u.y t.y)) → b ≡ r → same_record s i j ≡ r
+same_record_lem p q e h = rw (← p.kind, ← p.x, ← p.y, ← q.kind, ← q.x, ← q.y) (sym e ∙ h)
 
 -- ---- the chains of records
 -- equal records are in one chain
@@ -104,40 +95,44 @@ chain_apart : (s : List ℕ) (i k : ℕ) → (chained_by s k ≡ chained_by s i 
 chain_apart s i k d = (denies _ (says_same s i k)).1 (λ (e, (x, y)). d (rw (x, y)))
 
 -- one record more
-pub record_chained : (s : List ℕ) {before latest : List ℕ} {i w v n : ℕ} {t : Term} → Chaining (chained_by s) i before latest → i < n → n < 256 → IsTerm s i t → v ≡ (21 * t.x + t.y) % 256 → w ≡ i →
-    Chaining (chained_by s) (i + 1) (set before w (get_or latest v 0)) (set latest v i)
-record_chained s p l m q o e = chaining_more p (omega arith) (sym (o ∙ rw (q.x, q.y))) e (omega arith)
+pub record_chained : (s : List ℕ) {before latest before' latest' : List ℕ} {i v n : ℕ} {t : Term} → Chaining (chained_by s) i before latest → i < n → n < 256 → IsTerm s i t → v ≡ (21 * t.x + t.y) % 256 →
+    before' ≡ set before i (get_or latest v 0) → latest' ≡ set latest v i → Chaining (chained_by s) (i + 1) before' latest'
+record_chained s p l m q o e f = rw (e, f) (chaining_more p (omega arith) (sym (o ∙ rw (q.x, q.y))) refl (omega arith))
 
 -- the walk along the chain of record i: those that it has seen are other records
-abbrev pub Apart : List ℕ → ℕ → ℕ → Type 0
-Apart s i j = Walk (chained_by s) (λ k. same_record s i k ≡ false) i (chained_by s i) j
+abbrev pub Apart : List ℕ → ℕ → Maybe ℕ → Type 0
+Apart s i o = Linked (chained_by s) (λ k. same_record s i k ≡ false) i (chained_by s i) o
 
-pub apart_start : (s : List ℕ) {before : List ℕ} (i : ℕ) {w : ℕ} → Chained (chained_by s) (i + 1) before → w ≡ i → Apart s i (get_or before w 0)
-apart_start s i q e = let l : chained_by s i < 256 = omega arith in walk_start l (rw e (q.is i (omega arith) l))
+pub apart_start : (s : List ℕ) {before : List ℕ} (i : ℕ) {o : Maybe ℕ} → Chained (chained_by s) (i + 1) before → o ≡ link_of (get_or before i 0) → Apart s i o
+apart_start s i q e = let l : chained_by s i < 256 = omega arith in linked_of (walk_start l (q.is i (omega arith) l)) e
 
-module _ (s : List ℕ) (i : ℕ) {j : ℕ} (p : Apart s i j) where
-  pub apart_end : j ≡ 255 → false ≡ any (same_record s i) i
+module _ (s : List ℕ) (i : ℕ) {o : Maybe ℕ} (p : Apart s i o) where
+  pub apart_end : o ≡ None → false ≡ any (same_record s i) i
   apart_end e =
       false_any
-      (record { within = le_refl i; failed = λ k l. by_cases (ℕ_discrete (chained_by s k) (chained_by s i)) (walk_end p e k l) (chain_apart s i k) })
+      (record { within = le_refl i; failed = λ k l. by_cases (ℕ_discrete (chained_by s k) (chained_by s i)) (walk_end (linked_none p e) refl k l) (chain_apart s i k) })
       (le_refl i)
 
-  pub apart_hit : (j ≡ 255 → ⊥) → same_record s i j ≡ true → true ≡ any (same_record s i) i
-  unfolding any
-  apart_hit d t = let (k, f, u, v) = first_found (same_record s i) i j (walk_below p d) t in sym (ap is_some f)
+  module _ {j : ℕ} (e : o ≡ Some j) where
+    pub apart_hit : same_record s i j ≡ true → true ≡ any (same_record s i) i
+    unfolding any
+    apart_hit t =
+        let w = linked_at p e in
+        let (k, f, u, v) = first_found (same_record s i) i j (walk_below w.0 w.1) t in
+        sym (ap is_some f)
 
-  module _ {before : List ℕ} {w : ℕ} (d : j ≡ 255 → ⊥) (q : Chained (chained_by s) (i + 1) before) (e : w ≡ j) where
-    pub apart_more : same_record s i j ≡ false → Apart s i (get_or before w 0)
-    apart_more f = walk_more p d q (omega arith) e f
+    module _ {before : List ℕ} {o' : Maybe ℕ} (q : Chained (chained_by s) (i + 1) before) (g : o' ≡ link_of (get_or before j 0)) where
+      pub apart_more : same_record s i j ≡ false → Apart s i o'
+      apart_more f = let w = linked_at p e in linked_of (walk_more w.0 w.1 q (omega arith) refl f) g
 
-    pub apart_less : i < 256 → (get_or before w 0 + 1) % 256 < (j + 1) % 256
-    apart_less m = walk_less p d q (omega arith) e m
+      pub apart_less : i < 256 → (byte_of_link o' + 1) % 256 < (byte_of_link o + 1) % 256
+      apart_less m = let w = linked_at p e in rw (g, link_back, e) (walk_less w.0 w.1 q (omega arith) refl m)
 
 -- ---- an entry of the knowledge
 module _ (s : List ℕ) (i : ℕ) {t n : ℕ} (e : t ≡ entry_at s i) (f : n ≡ terms s) where
-  pub entry_seen : {seen : List ℕ} {w : ℕ} → Noted (entry_at s) i seen → t < n → w ≡ t → eqb (get_or seen w 0) 1 ≡ bad_knowledge s i
+  pub entry_seen : {seen : List Bool} {w : ℕ} → Flagged (entry_at s) i seen → t < n → w ≡ t → get_or seen w false ≡ bad_knowledge s i
   unfolding bad_knowledge
-  entry_seen p l g = let b : ltb (entry_at s i) (terms s) ≡ true = lt-ltb (entry_at s i) (terms s) (omega arith) in rw b (noted_any p (g ∙ e))
+  entry_seen p l g = let b : ltb (entry_at s i) (terms s) ≡ true = lt-ltb (entry_at s i) (terms s) (omega arith) in rw b (flagged_any p (g ∙ e))
 
   pub entry_high : n ≤ t → true ≡ bad_knowledge s i
   unfolding bad_knowledge

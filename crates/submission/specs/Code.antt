@@ -1,13 +1,12 @@
 -- What the code's records mean in document 01's terms.
-use mathlib.Core.{Path.◌≡◌, List.List, Option.Option, Option.none, Option.some}
-use Rattle.std.specs.Prelude.{ℕ, ◌+◌, ◌*◌, ◌%◌, ◌≤◌}
+use mathlib.Core.{Path.◌≡◌, List.List, Option.none, Option.some}
+use Rattle.std.specs.Prelude.{ℕ, ◌+◌, ◌*◌, ◌%◌, ◌≤◌, Result, Ok, Err}
 use Rattle.submission.specs.declared.Term.{Term}
 use Rattle.submission.specs.declared.Claim.{Claim}
 use Rattle.submission.specs.declared.ClaimBytes.{ClaimBytes}
 use Rattle.submission.specs.declared.Way.{Way as WayRead}
 use Rattle.submission.specs.declared.Way.TheVariants.{AnotherStep, AtStart, InverseKey, GuessDerived, InverseDerived}
-use Rattle.submission.specs.declared.Letter.{Letter}
-use Rattle.submission.specs.declared.Letter.TheVariants.{Stands, Stranger}
+use Rattle.submission.specs.declared.UnknownWay.{UnknownWay}
 use Rattle.submission.specs.declared.Range.{Range as RangeRead}
 use Rattle.submission.specs.declared.Range.TheVariants.{Step, Term as TermNumber, Zero, StepOrKnowledge}
 use Rattle.submission.specs.declared.Target.{Target as TargetRead}
@@ -17,12 +16,12 @@ use Rattle.submission.specs.declared.Claims.TheVariants.{Verifier, Derived}
 use Rattle.submission.specs.declared.Operand.{Operand as OperandRead}
 use Rattle.submission.specs.declared.Operand.TheVariants.{VerifyingResult, CompanionResult, LowestConclusion, LowestCompanion, GuessRegister, GivenRegister}
 use Rattle.submission.specs.declared.Row.{Row as RowRead}
-use Rattle.submission.specs.declared.Reading.{Reading}
-use Rattle.submission.specs.declared.Reading.TheVariants.{Good, Refused}
+use Rattle.base.specs.declared.refusal.Refusal.{Refusal}
+use Rattle.base.specs.Code.{check_of}
 use Rattle.submission.specs.{Check.Way, Check.another_step, Check.at_start, Check.inverse_key, Check.guess_derived, Check.inverse_derived, Check.way_of, Check.Target, Check.the_guess, Check.its_inverse, Check.Claims, Check.verifier, Check.derived, Check.Range, Check.step_number, Check.term_number, Check.zero_only, Check.step_or_knowledge, Check.Operand, Check.verifying_result, Check.companion_result, Check.lowest_conclusion, Check.lowest_companion, Check.guess_register, Check.given_register, Check.Row, Record.start, Record.count, Record.kind_at, Record.x_at, Record.y_at, Record.guess, Record.verifying, Record.way_at, Record.companion, Record.InKnowledge, Computed.checks1to4, Computed.checks1to5}
 use Rattle.term.specs.Term as words
 use Rattle.term.specs.Code.{relation_is}
-use Rattle.base.specs.{Words.Bytes, Computed.Check, Computed.passes, Computed.fails}
+use Rattle.base.specs.{Words.Bytes, Computed.Check, Computed.passes}
 
 -- r is where body i starts; a body has at most 255 records of at most 4 bytes
 pub record Starts (s : List ℕ) (i r : ℕ) : Type 0 where
@@ -57,9 +56,10 @@ way_is InverseKey = inverse_key
 way_is GuessDerived = guess_derived
 way_is InverseDerived = inverse_derived
 
-abbrev pub letter_is : Letter → Option Way
-letter_is Stranger = none
-letter_is (Stands w) = some (way_is w)
+-- a letter is read as this way, or as none
+abbrev pub ReadsWay : ℕ → Result WayRead UnknownWay → Type 0
+ReadsWay l (Ok w) = way_of l ≡ some (way_is w)
+ReadsWay l (Err e) = way_of l ≡ none
 
 abbrev pub range_is : RangeRead → Range
 range_is Step = step_number
@@ -110,15 +110,10 @@ pub record IsClaim (s : List ℕ) (c : Claim) : Type 0 where
   pub way : way_of (way_at s) ≡ some (way_is c.way)
   pub other : c.companion ≡ companion s
 
--- what reading says: the checks passed, or the number and the place of the refusal
-abbrev pub reading_check : Reading → Check
-reading_check (Good c) = passes
-reading_check (Refused number place) = fails number place
-
--- r is the answer d of the checks, with the claim where they pass
-pub record ReadingIs (s : List ℕ) (d : Check) (r : Reading) : Type 0 where
-  pub answer : reading_check r ≡ d
-  pub claim : (c : Claim) → r ≡ Good c → IsClaim s c
+-- r is the result of the checks d, with the claim where they pass
+pub record ClaimRead (s : List ℕ) (d : Check) (r : Result Claim Refusal) : Type 0 where
+  pub answer : check_of r ≡ d
+  pub claim : (c : Claim) → r ≡ Ok c → IsClaim s c
 
 -- the byte by which records are chained, made of x and y; equal records have the same
 abbrev pub chained_by : List ℕ → ℕ → ℕ

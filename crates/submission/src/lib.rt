@@ -2,18 +2,24 @@
 // Promises: every function is total, for all bytes, and its answer is what the definitions of specs/ give.
 #![tactic(auto)]
 
-ghost use Rattle.std.specs.Prelude.{◌≡◌, ◌&&◌, not, ◌+◌, ◌*◌, ◌%◌, ◌<◌, eqb, get_or};
+ghost use Rattle.std.specs.Prelude.{◌≡◌, ◌&&◌, not, cond, ◌+◌, ◌*◌, ◌%◌, ◌<◌, eqb, get_or};
 ghost use Rattle.base.specs.Words.{first, byte as byte_at};
+ghost use Rattle.term.specs.Term.{asymmetric, is_key_for};
 ghost use Rattle.term.specs.Number.{shape_of};
+ghost use Rattle.term.specs.Computed.{is_atomic, inverse_kinds, takes};
+ghost use Rattle.term.specs.Code.{shape_read, rule_is, is_unary, builder_of, second_of};
 ghost use Rattle.submission.specs.Record.{letter, count as count_in, start, terms as term_count, entries as entry_count, steps as step_count, kind_at, x_at, y_at, entry_at, way_at};
 ghost use Rattle.submission.specs.Computed.{are_inverse, bad_contents, check_limits, in_range, guess_fits, claim_fits, shape_fits, same_record, bad_term, bad_knowledge, good_claim, checks1to4, checks1to5};
 ghost use Rattle.submission.specs.Check.{way_of, step_or_knowledge, row};
 ghost use Rattle.base.specs.Computed.{any, fails_at, fails_if};
-ghost use Rattle.base.specs.Code.{check_of, Noted, Chained};
-ghost use Rattle.submission.specs.Code.{Starts, IsTerm, way_is, letter_is, claims_is, range_is, row_is, IsClaimBytes, IsClaim, reading_check, ReadingIs, chained_by};
+ghost use Rattle.base.specs.Code.{check_of, Flagged, Chained};
+ghost use Rattle.submission.specs.Code.{Starts, IsTerm, way_is, ReadsWay, claims_is, range_is, row_is, IsClaimBytes, IsClaim, ClaimRead, chained_by};
 
-use base::{Stage, byte, wide, wide16, word};
-use term::{Relation, kinds};
+pub mod read;
+
+use base::{ByteChains, Fault, Refusal, byte, bytes_at, word};
+pub use read::{Submission, Table};
+use term::{Kind, Relation};
 
 // Where the first body starts.
 pub const CONTENTS_SIZE: usize = 16;
@@ -48,62 +54,117 @@ pub fn steps(s: &[u8]) -> u8
 pub fn knowledge_start(s: &[u8]) -> usize
     ensures { Starts s.now 1 result }
 {
-    CONTENTS_SIZE + TERM_WIDTH * wide(byte(s, 1))
+    CONTENTS_SIZE + TERM_WIDTH * usize::from(byte(s, 1))
 }
 
 pub fn derivation_start(s: &[u8]) -> usize
     ensures { Starts s.now 2 result }
 {
-    knowledge_start(s) + ENTRY_WIDTH * wide(byte(s, 5))
+    knowledge_start(s) + ENTRY_WIDTH * usize::from(byte(s, 5))
 }
 
 pub fn claim_start(s: &[u8]) -> usize
     ensures { Starts s.now 3 result }
 {
-    derivation_start(s) + STEP_WIDTH * wide(byte(s, 9))
+    derivation_start(s) + STEP_WIDTH * usize::from(byte(s, 9))
 }
 
 // Where the last body ends.
 fn end(s: &[u8]) -> usize
     ensures { Starts s.now 4 result }
 {
-    claim_start(s) + CLAIM_WIDTH * wide(byte(s, 13))
+    claim_start(s) + CLAIM_WIDTH * usize::from(byte(s, 13))
 }
 
 // A term's record.
-#[derive(Clone, Copy)]
+#[derive(Clone, Copy, PartialEq, Eq)]
 pub struct Term {
     pub kind: u8,
     pub x: u8,
     pub y: u8,
 }
 
-pub fn term_at(s: &[u8], i: u8) -> Term
-    ensures { IsTerm s.now i result }
-{
-    let at = CONTENTS_SIZE + TERM_WIDTH * wide(i);
-    // Where the last byte is there, so are the others: one test in place of three.
-    if at + 2 < s.len() {
-        return Term {
-            kind: s[at],
-            x: s[at + 1],
-            y: s[at + 2],
-        };
+impl Term {
+    // The kind, where the record's first byte numbers one.
+    pub fn kind(self) -> Option<Kind>
+        ensures { shape_read result ≡ shape_of self.kind }
+    {
+        Kind::try_from(self.kind).ok()
     }
-    Term {
-        kind: byte(s, at),
-        x: byte(s, at + 1),
-        y: byte(s, at + 2),
+
+    pub fn is_atom(self) -> bool
+        ensures { result ≡ is_atomic (shape_of self.kind) }
+    {
+        self.kind().is_some_and(|kind| kind.is_atom())
+    }
+
+    // Whether it is a public or a private key.
+    pub fn is_key(self) -> bool
+        ensures { result ≡ is_key_for asymmetric (shape_of self.kind) }
+    {
+        self.kind().is_some_and(|kind| kind.is_key())
+    }
+
+    // Whether it has one operand, so that its y is 0 and no part.
+    pub fn is_unary(self) -> bool
+        ensures { result ≡ is_unary (shape_of self.kind) }
+    {
+        self.kind().is_some_and(|kind| kind.is_unary())
+    }
+
+    // The rule that builds it, where there is one.
+    pub fn rule(self) -> Option<u8>
+        ensures { rule_is result ≡ builder_of (shape_of self.kind) }
+    {
+        self.kind().and_then(|kind| kind.rule())
+    }
+
+    // Whether it takes the second operand, where it has two.
+    pub fn takes(self, second: Term) -> bool
+        ensures { result ≡ takes (second_of (shape_of self.kind)) (shape_of second.kind) }
+    {
+        let taken = second.kind();
+        self.kind().is_some_and(|kind| kind.takes(taken))
+    }
+
+    // The second part; one operand stands twice. Of an atom it is y.
+    pub fn second_part(self) -> u8
+        ensures { result ≡ cond (is_unary (shape_of self.kind)) self.x self.y }
+    {
+        if self.is_unary() { self.x } else { self.y }
+    }
+
+    // The name, of an atom.
+    pub fn name(self) -> u16
+        ensures { result ≡ self.x * 256 + self.y }
+    {
+        u16::from_be_bytes([self.x, self.y])
+    }
+
+    // Whether the two are keys, one public and one private.
+    fn has_inverse_kind(self, other: Term) -> bool
+        ensures { result ≡ inverse_kinds self.kind other.kind }
+    {
+        let Some(kind) = self.kind() else {
+            return false;
+        };
+        kind.is_inverse_of(other.kind())
+    }
+
+    // Whether the two are keys of one name, one public and one private.
+    pub fn is_inverse_of(self, other: Term) -> bool
+        ensures { result ≡ (inverse_kinds self.kind other.kind && (eqb self.x other.x && eqb self.y other.y)) }
+    {
+        self.x == other.x && self.y == other.y && self.has_inverse_kind(other)
     }
 }
 
-// The name of an atom's record.
-pub fn name_of(t: Term) -> u16
-    ensures { result ≡ t.x * 256 + t.y }
+#[tactic(auto, unfolding(crate::specs::Record::start_of))]
+pub fn term_at(s: &[u8], i: u8) -> Term
+    ensures { IsTerm s.now i result }
 {
-    let x = wide16(t.x);
-    let y = wide16(t.y);
-    x * 256 + y
+    let [kind, x, y] = bytes_at::<TERM_WIDTH>(s, CONTENTS_SIZE + TERM_WIDTH * usize::from(i));
+    Term { kind, x, y }
 }
 
 // The claim's four bytes.
@@ -118,12 +179,12 @@ pub struct ClaimBytes {
 pub fn claim_bytes(s: &[u8]) -> ClaimBytes
     ensures { IsClaimBytes s.now result }
 {
-    let at = claim_start(s);
+    let [guess, step, letter, companion] = bytes_at::<CLAIM_WIDTH>(s, claim_start(s));
     ClaimBytes {
-        guess: byte(s, at),
-        step: byte(s, at + 1),
-        letter: byte(s, at + 2),
-        companion: byte(s, at + 3),
+        guess,
+        step,
+        letter,
+        companion,
     }
 }
 
@@ -131,22 +192,14 @@ pub fn claim_bytes(s: &[u8]) -> ClaimBytes
 pub fn entry_at(s: &[u8], i: u8) -> u8
     ensures { result ≡ entry_at s.now i }
 {
-    byte(s, knowledge_start(s) + wide(i))
+    byte(s, knowledge_start(s) + usize::from(i))
 }
 
 // Whether terms i and j are keys of one name, one public and one private.
 pub fn are_inverse(s: &[u8], i: u8, j: u8) -> bool
     ensures { result ≡ are_inverse s.now i j }
 {
-    let a = term_at(s, i);
-    let b = term_at(s, j);
-    if a.x != b.x {
-        return false;
-    }
-    if a.y != b.y {
-        return false;
-    }
-    kinds::are_inverse(a.kind, b.kind)
+    term_at(s, i).is_inverse_of(term_at(s, j))
 }
 
 // ---- Check 1, contents.
@@ -155,13 +208,10 @@ pub fn are_inverse(s: &[u8], i: u8, j: u8) -> bool
 fn is_letter_wrong(s: &[u8]) -> bool
     ensures { result ≡ any (λ i. not (eqb (byte_at s.now (4 * i)) (letter i))) 4 }
 {
-    let letters = b"TKDV";
-    let mut i = 0;
-    while i < 4 {
-        if byte(s, 4 * i) != letters[i] {
+    for (i, letter) in b"TKDV".iter().enumerate() {
+        if byte(s, 4 * i) != *letter {
             return true;
         }
-        i += 1;
     }
     false
 }
@@ -182,68 +232,46 @@ fn is_start_wrong(s: &[u8]) -> bool
     word(s, 14) != claim_start(s)
 }
 
+#[tactic(auto, unfolding(crate::specs::Computed::bad_contents))]
 fn are_contents_wrong(s: &[u8]) -> bool
     ensures { result ≡ bad_contents s.now }
 {
-    if s.len() < CONTENTS_SIZE {
-        return true;
-    }
-    if is_letter_wrong(s) {
-        return true;
-    }
-    if is_start_wrong(s) {
-        return true;
-    }
-    s.len() != end(s)
+    s.len() < CONTENTS_SIZE || is_letter_wrong(s) || is_start_wrong(s) || s.len() != end(s)
 }
 
-pub fn check_contents(s: &[u8]) -> Stage
+pub fn check_contents(s: &[u8]) -> Result<(), Refusal>
     ensures { check_of result ≡ fails_if (bad_contents s.now) 1 0 }
 {
     if are_contents_wrong(s) {
-        return Stage::Refused {
-            number: 1,
-            place: 0,
-        };
+        return Err(Fault::Contents.at(0));
     }
-    Stage::Passed
+    Ok(())
 }
 
 // ---- Check 2, count.
 
 // The limits of any four counts.
-pub fn check_limits(counts: [usize; 4]) -> Stage
+pub fn check_limits(counts: [usize; 4]) -> Result<(), Refusal>
     ensures { check_of result ≡ check_limits (λ i. get_or counts i 0) }
 {
     let least: [usize; 4] = [1, 0, 0, 1];
     let most: [usize; 4] = [250, 64, 128, 1];
-    let mut i = 0;
-    while i < 4 {
-        if counts[i] < least[i] {
-            return Stage::Refused {
-                number: 2,
-                place: i as u16,
-            };
+    for i in 0..4usize {
+        if counts[i] < least[i] || most[i] < counts[i] {
+            return Err(Fault::Count.at(i as u16));
         }
-        if most[i] < counts[i] {
-            return Stage::Refused {
-                number: 2,
-                place: i as u16,
-            };
-        }
-        i += 1;
     }
-    Stage::Passed
+    Ok(())
 }
 
-pub fn check_counts(s: &[u8]) -> Stage
+pub fn check_counts(s: &[u8]) -> Result<(), Refusal>
     ensures { check_of result ≡ check_limits (count_in s.now) }
 {
     check_limits([
-        wide(byte(s, 1)),
-        wide(byte(s, 5)),
-        wide(byte(s, 9)),
-        wide(byte(s, 13)),
+        usize::from(byte(s, 1)),
+        usize::from(byte(s, 5)),
+        usize::from(byte(s, 9)),
+        usize::from(byte(s, 13)),
     ])
 }
 
@@ -254,133 +282,98 @@ fn shape_fits(s: &[u8], i: u8) -> bool
     ensures { result ≡ shape_fits s.now i (shape_of (kind_at s.now i)) }
 {
     let t = term_at(s, i);
-    if kinds::is_atom(t.kind) {
+    if t.is_atom() {
         return true;
     }
     if i <= t.x {
         return false;
     }
-    if kinds::is_unary(t.kind) {
+    if t.is_unary() {
         return t.y == 0;
     }
     if i <= t.y {
         return false;
     }
-    let second = term_at(s, t.y);
-    kinds::takes(t.kind, second.kind)
-}
-
-// Whether record j is t. In a chain x tells most records apart, so it comes first.
-fn is_record(s: &[u8], j: u8, t: Term) -> bool
-    ensures { result ≡ (eqb (kind_at s.now j) t.kind && (eqb (x_at s.now j) t.x && eqb (y_at s.now j) t.y)) }
-{
-    let u = term_at(s, j);
-    if u.x != t.x {
-        return false;
-    }
-    if u.kind != t.kind {
-        return false;
-    }
-    u.y == t.y
+    t.takes(term_at(s, t.y))
 }
 
 // Whether an earlier record equals record i. Only those of its chain are compared, the latest first.
-fn is_repeated(s: &[u8], before: &[u8; 256], i: u8) -> bool
-    requires { Chained (chained_by s.now) (i + 1) before.now }
+fn is_repeated(s: &[u8], chains: &ByteChains, i: u8) -> bool
+    requires { Chained (chained_by s.now) (i + 1) chains.now.before }
     ensures { result ≡ any (same_record s.now i) i }
 {
     let t = term_at(s, i);
-    let mut j = before[wide(i)];
-    while j != 255 {
-        if is_record(s, j, t) {
+    let mut next = chains.before(i);
+    while let Some(j) = next {
+        if term_at(s, j) == t {
             return true;
         }
-        j = before[wide(j)];
+        next = chains.before(j);
     }
     false
 }
 
-fn is_term_bad(s: &[u8], before: &[u8; 256], i: u8) -> bool
-    requires { Chained (chained_by s.now) (i + 1) before.now }
+#[tactic(auto, unfolding(crate::specs::Computed::bad_term))]
+fn is_term_bad(s: &[u8], chains: &ByteChains, i: u8) -> bool
+    requires { Chained (chained_by s.now) (i + 1) chains.now.before }
     ensures { result ≡ bad_term s.now i }
 {
-    if shape_fits(s, i) {
-        return is_repeated(s, before, i);
-    }
-    true
+    !shape_fits(s, i) || is_repeated(s, chains, i)
 }
 
 // The byte by which a record is chained, the same for equal records. The factor spreads records that have one x or one y, and those whose x
 // and y rise or fall together: at most four of 256 such have the same byte.
-fn chain_of(t: Term) -> usize
+fn chain_of(t: Term) -> u8
     ensures { result ≡ (21 * t.x + t.y) % 256 }
 {
-    (21 * wide(t.x) + wide(t.y)) % 256
+    ((21 * u16::from(t.x) + u16::from(t.y)) % 256) as u8
 }
 
-// Records are chained. `before` has for each record the latest earlier one of its chain, and `latest` for
-// each byte the latest record that is chained by it; 255 stands for none, since a record's number is below 255.
-pub fn check_terms(s: &[u8]) -> Stage
+// Each record is chained before it is looked at.
+pub fn check_terms(s: &[u8]) -> Result<(), Refusal>
     ensures { check_of result ≡ fails_at 3 (first (bad_term s.now) (term_count s.now)) }
 {
     let n = terms(s);
-    let mut before = [255u8; 256];
-    let mut latest = [255u8; 256];
-    let mut i: u8 = 0;
-    while i < n {
-        let t = term_at(s, i);
-        let chain = chain_of(t);
-        before[wide(i)] = latest[chain];
-        latest[chain] = i;
-        if is_term_bad(s, &before, i) {
-            return Stage::Refused {
-                number: 3,
-                place: wide16(i),
-            };
+    let mut chains = ByteChains::new();
+    for i in 0..n {
+        chains.chain(chain_of(term_at(s, i)), i);
+        if is_term_bad(s, &chains, i) {
+            return Err(Fault::Term.at(u16::from(i)));
         }
-        i += 1;
     }
-    Stage::Passed
+    Ok(())
 }
 
 // ---- Check 4, knowledge.
 
-// Whether entry i is no term, or equals an earlier one: `seen` has 1 at the terms of these.
-fn is_entry_bad(s: &[u8], seen: &[u8; 256], i: u8) -> bool
-    requires { Noted (entry_at s.now) i seen.now }
+// Whether entry i is no term, or equals an earlier one: `seen` flags the terms of these.
+fn is_entry_bad(s: &[u8], seen: &[bool; 256], i: u8) -> bool
+    requires { Flagged (entry_at s.now) i seen.now }
     ensures { result ≡ bad_knowledge s.now i }
 {
     let t = entry_at(s, i);
-    if t < terms(s) {
-        return seen[wide(t)] == 1;
-    }
-    true
+    terms(s) <= t || seen[usize::from(t)]
 }
 
-pub fn check_knowledge(s: &[u8]) -> Stage
+pub fn check_knowledge(s: &[u8]) -> Result<(), Refusal>
     ensures { check_of result ≡ fails_at 4 (first (bad_knowledge s.now) (entry_count s.now)) }
 {
     let n = entries(s);
-    let mut seen = [0u8; 256];
-    let mut i: u8 = 0;
-    while i < n {
+    let mut seen = [false; 256];
+    for i in 0..n {
         if is_entry_bad(s, &seen, i) {
-            return Stage::Refused {
-                number: 4,
-                place: wide16(i),
-            };
+            return Err(Fault::Knowledge.at(u16::from(i)));
         }
-        seen[wide(entry_at(s, i))] = 1;
-        i += 1;
+        seen[usize::from(entry_at(s, i))] = true;
     }
-    Stage::Passed
+    Ok(())
 }
 
 // ---- The ways of a claim.
 
 // Way a: another step concludes the same term; way b: it is known at the start; way c: its inverse key is known; way k: the guess is
 // derived; way j: its inverse is.
-#[derive(Clone, Copy)]
+#[derive(Clone, Copy, PartialEq, Eq)]
 pub enum Way {
     AnotherStep,
     AtStart,
@@ -389,42 +382,44 @@ pub enum Way {
     InverseDerived,
 }
 
-// What a letter stands for.
-#[derive(Clone, Copy)]
-pub enum Letter {
-    Stands(Way),
-    Stranger,
-}
+// A letter that is no way's.
+#[derive(Clone, Copy, PartialEq, Eq)]
+pub struct UnknownWay(pub u8);
 
-fn way_of(letter: u8) -> Letter
-    ensures { letter_is result ≡ way_of letter }
-{
-    match letter {
-        b'a' => Letter::Stands(Way::AnotherStep),
-        b'b' => Letter::Stands(Way::AtStart),
-        b'c' => Letter::Stands(Way::InverseKey),
-        b'k' => Letter::Stands(Way::GuessDerived),
-        b'j' => Letter::Stands(Way::InverseDerived),
-        _ => Letter::Stranger,
+impl TryFrom<u8> for Way {
+    type Error = UnknownWay;
+
+    ghost try_from_gives = { ReadsWay };
+
+    #[tactic(auto, using(crate::proofs::ClaimTests::no_way), unfolding(crate::specs::Check::way_of))]
+    fn try_from(letter: u8) -> Result<Self, UnknownWay> {
+        match letter {
+            b'a' => Ok(Way::AnotherStep),
+            b'b' => Ok(Way::AtStart),
+            b'c' => Ok(Way::InverseKey),
+            b'k' => Ok(Way::GuessDerived),
+            b'j' => Ok(Way::InverseDerived),
+            _ => Err(UnknownWay(letter)),
+        }
     }
 }
 
 // What is derived: the guess, or its inverse.
-#[derive(Clone, Copy)]
+#[derive(Clone, Copy, PartialEq, Eq)]
 pub enum Target {
     Guess,
     Inverse,
 }
 
 // What a way claims: a verifier, or that the guess or its inverse is derived, and then the guess doesn't count as known.
-#[derive(Clone, Copy)]
+#[derive(Clone, Copy, PartialEq, Eq)]
 pub enum Claims {
     Verifier,
     Derived(Target),
 }
 
 // What a number of the claim may be: a step's, a term's, 0 only, or a step's or KNOWLEDGE_STEP.
-#[derive(Clone, Copy)]
+#[derive(Clone, Copy, PartialEq, Eq)]
 pub enum Range {
     Step,
     Term,
@@ -437,7 +432,7 @@ pub const KNOWLEDGE_STEP: u8 = 255;
 
 // A register that the test names: of the verifying step or of the companion step, the lowest that holds the conclusion or the companion, the
 // guess's, or that of what gives the term claimed.
-#[derive(Clone, Copy)]
+#[derive(Clone, Copy, PartialEq, Eq)]
 pub enum Operand {
     VerifyingResult,
     CompanionResult,
@@ -461,60 +456,63 @@ pub struct Row {
     pub against: Operand,
 }
 
-pub fn row_of(way: Way) -> Row
-    ensures { row_is result ≡ row (way_is way) }
-{
-    match way {
-        Way::AnotherStep => Row {
-            letter: b'a',
-            claims: Claims::Verifier,
-            step: Range::Step,
-            companion: Range::Step,
-            kept: true,
-            relation: Relation::Equal,
-            tested: Operand::VerifyingResult,
-            against: Operand::CompanionResult,
-        },
-        Way::AtStart => Row {
-            letter: b'b',
-            claims: Claims::Verifier,
-            step: Range::Step,
-            companion: Range::Zero,
-            kept: false,
-            relation: Relation::Equal,
-            tested: Operand::VerifyingResult,
-            against: Operand::LowestConclusion,
-        },
-        Way::InverseKey => Row {
-            letter: b'c',
-            claims: Claims::Verifier,
-            step: Range::Step,
-            companion: Range::Term,
-            kept: false,
-            relation: Relation::Inverse,
-            tested: Operand::VerifyingResult,
-            against: Operand::LowestCompanion,
-        },
-        Way::GuessDerived => Row {
-            letter: b'k',
-            claims: Claims::Derived(Target::Guess),
-            step: Range::StepOrKnowledge,
-            companion: Range::Zero,
-            kept: false,
-            relation: Relation::Equal,
-            tested: Operand::GuessRegister,
-            against: Operand::GivenRegister(Target::Guess),
-        },
-        Way::InverseDerived => Row {
-            letter: b'j',
-            claims: Claims::Derived(Target::Inverse),
-            step: Range::StepOrKnowledge,
-            companion: Range::Zero,
-            kept: false,
-            relation: Relation::Inverse,
-            tested: Operand::GuessRegister,
-            against: Operand::GivenRegister(Target::Inverse),
-        },
+impl Way {
+    // The way's row.
+    pub fn row(self) -> Row
+        ensures { row_is result ≡ row (way_is self) }
+    {
+        match self {
+            Way::AnotherStep => Row {
+                letter: b'a',
+                claims: Claims::Verifier,
+                step: Range::Step,
+                companion: Range::Step,
+                kept: true,
+                relation: Relation::Equal,
+                tested: Operand::VerifyingResult,
+                against: Operand::CompanionResult,
+            },
+            Way::AtStart => Row {
+                letter: b'b',
+                claims: Claims::Verifier,
+                step: Range::Step,
+                companion: Range::Zero,
+                kept: false,
+                relation: Relation::Equal,
+                tested: Operand::VerifyingResult,
+                against: Operand::LowestConclusion,
+            },
+            Way::InverseKey => Row {
+                letter: b'c',
+                claims: Claims::Verifier,
+                step: Range::Step,
+                companion: Range::Term,
+                kept: false,
+                relation: Relation::Inverse,
+                tested: Operand::VerifyingResult,
+                against: Operand::LowestCompanion,
+            },
+            Way::GuessDerived => Row {
+                letter: b'k',
+                claims: Claims::Derived(Target::Guess),
+                step: Range::StepOrKnowledge,
+                companion: Range::Zero,
+                kept: false,
+                relation: Relation::Equal,
+                tested: Operand::GuessRegister,
+                against: Operand::GivenRegister(Target::Guess),
+            },
+            Way::InverseDerived => Row {
+                letter: b'j',
+                claims: Claims::Derived(Target::Inverse),
+                step: Range::StepOrKnowledge,
+                companion: Range::Zero,
+                kept: false,
+                relation: Relation::Inverse,
+                tested: Operand::GuessRegister,
+                against: Operand::GivenRegister(Target::Inverse),
+            },
+        }
     }
 }
 
@@ -529,21 +527,11 @@ pub struct Claim {
     pub companion: u8,
 }
 
-// What reading answers: the claim, or the refusal's number and place.
-#[derive(Clone, Copy)]
-pub enum Reading {
-    Good(Claim),
-    Refused { number: u8, place: u16 },
-}
-
 // Whether n numbers a step, or is the number for an entry of the knowledge.
 fn is_step_or_knowledge(s: &[u8], n: u8) -> bool
     ensures { result ≡ in_range s.now step_or_knowledge n }
 {
-    if n < steps(s) {
-        return true;
-    }
-    n == KNOWLEDGE_STEP
+    n < steps(s) || n == KNOWLEDGE_STEP
 }
 
 // Whether n is in the range.
@@ -571,7 +559,7 @@ fn guess_fits(s: &[u8], c: Claim, claims: Claims) -> bool
     let guess = term_at(s, c.guess);
     match target {
         Target::Guess => true,
-        Target::Inverse => kinds::is_key(guess.kind),
+        Target::Inverse => guess.is_key(),
     }
 }
 
@@ -580,44 +568,29 @@ fn claim_fits(s: &[u8], c: Claim) -> bool
     requires { IsClaim s.now c }
     ensures { result ≡ claim_fits s.now (way_of (way_at s.now)) }
 {
-    let way = c.way;
-    let row = row_of(way);
+    let row = c.way.row();
     let claims = row.claims;
     let step = row.step;
     let companion = row.companion;
-    if !guess_fits(s, c, claims) {
-        return false;
-    }
-    if is_in_range(s, step, c.step) {
-        return is_in_range(s, companion, c.companion);
-    }
-    false
+    guess_fits(s, c, claims)
+        && is_in_range(s, step, c.step)
+        && is_in_range(s, companion, c.companion)
 }
 
+#[tactic(auto, unfolding(crate::specs::Computed::good_claim))]
 fn is_claim_good(s: &[u8], c: Claim) -> bool
     requires { IsClaim s.now c }
     ensures { result ≡ good_claim s.now }
 {
-    if terms(s) <= c.guess {
-        return false;
-    }
-    let guess = term_at(s, c.guess);
-    if !kinds::is_atom(guess.kind) {
-        return false;
-    }
-    claim_fits(s, c)
+    c.guess < terms(s) && term_at(s, c.guess).is_atom() && claim_fits(s, c)
 }
 
-pub fn check_claim(s: &[u8]) -> Reading
-    ensures { ReadingIs s.now (fails_if (not (good_claim s.now)) 5 0) result }
+pub fn check_claim(s: &[u8]) -> Result<Claim, Refusal>
+    ensures { ClaimRead s.now (fails_if (not (good_claim s.now)) 5 0) result }
 {
     let bytes = claim_bytes(s);
-    let letter = way_of(bytes.letter);
-    let Letter::Stands(way) = letter else {
-        return Reading::Refused {
-            number: 5,
-            place: 0,
-        };
+    let Ok(way) = Way::try_from(bytes.letter) else {
+        return Err(Fault::Claim.at(0));
     };
     let claim = Claim {
         guess: bytes.guess,
@@ -626,52 +599,39 @@ pub fn check_claim(s: &[u8]) -> Reading
         companion: bytes.companion,
     };
     if is_claim_good(s, claim) {
-        return Reading::Good(claim);
+        return Ok(claim);
     }
-    Reading::Refused {
-        number: 5,
-        place: 0,
-    }
-}
-
-// What reading says as a check.
-pub fn stage_of(reading: Reading) -> Stage
-    ensures { check_of result ≡ reading_check reading }
-{
-    match reading {
-        Reading::Good(_) => Stage::Passed,
-        Reading::Refused { number, place } => Stage::Refused { number, place },
-    }
+    Err(Fault::Claim.at(0))
 }
 
 // ---- The checks in order; a refusal goes straight out.
 
 // Checks 1 to 4.
-pub fn check_body(s: &[u8]) -> Stage
+pub fn check_body(s: &[u8]) -> Result<(), Refusal>
     ensures { check_of result ≡ checks1to4 s.now }
 {
     let contents = check_contents(s);
-    let Stage::Passed = contents else {
+    let Ok(()) = contents else {
         return contents;
     };
     let counts = check_counts(s);
-    let Stage::Passed = counts else {
+    let Ok(()) = counts else {
         return counts;
     };
     let terms = check_terms(s);
-    let Stage::Passed = terms else {
+    let Ok(()) = terms else {
         return terms;
     };
     check_knowledge(s)
 }
 
 // Checks 1 to 5.
-pub fn check_reading(s: &[u8]) -> Reading
-    ensures { ReadingIs s.now (checks1to5 s.now) result }
+pub fn check_reading(s: &[u8]) -> Result<Claim, Refusal>
+    ensures { ClaimRead s.now (checks1to5 s.now) result }
 {
     let body = check_body(s);
-    let Stage::Refused { number, place } = body else {
+    let Err(refusal) = body else {
         return check_claim(s);
     };
-    Reading::Refused { number, place }
+    Err(refusal)
 }

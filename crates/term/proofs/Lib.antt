@@ -1,6 +1,6 @@
 pub mod Deducibility
 pub mod Guess
-pub mod Kind
+pub mod KindLaws
 pub mod Marks
 pub mod Numbered
 pub mod PartLaws

@@ -1,13 +1,47 @@
 -- What the code's enums and answers mean in document 01's terms, and notions that only proofs use.
 use Rattle.term.specs.declared.Relation.{Relation as RelationGiven}
 use Rattle.term.specs.declared.Relation.TheVariants.{Equal, Inverse}
-use Rattle.term.specs.{Term.Relation, Term.equal, Term.inverses, Term.Second, Term.absent, Term.second, Term.unary, Term.make, Term.Shape, Term.atomic, Term.compound, Term.Head, Term.part, Term.decrypt, Computed.head?, Term.Term, Term.atom, Term.node, Term.Operands, Computed.place, Number.rules, Number.table, Term.Rec, Term.leaf, Term.branch, Term.message}
-use mathlib.Core.{List.List, List.map, Bool.Bool, Bool.false, Option.Option, Option.none, Option.some, Path.◌≡◌}
-use Rattle.std.specs.Prelude.{ℕ, ◌<◌}
+use Rattle.term.specs.{Term.Relation, Term.equal, Term.inverses, Term.Second, Term.absent, Term.second, Term.unary, Term.make, Term.plain, Term.public, Term.private, Term.pair, Term.hash, Term.encryption, Term.symmetric, Term.asymmetric, Term.Shape, Term.atomic, Term.compound, Term.Head, Term.part, Term.decrypt, Computed.head?, Term.Term, Term.atom, Term.node, Term.Operands, Computed.place, Number.rules, Number.table, Number.shape_of, Term.Rec, Term.leaf, Term.branch, Term.message}
+use Rattle.term.specs.declared.kind.Kind.{Kind}
+use Rattle.term.specs.declared.kind.Kind.TheVariants.{Plain, Public, Private, Pair, Enc, Enca, Hash}
+use Rattle.term.specs.declared.kind.UnknownKind.{UnknownKind}
+use mathlib.Core.{List.List, List.map, Bool.Bool, Bool.true, Bool.false, Option.Option, Option.none, Option.some, Path.◌≡◌}
+use Rattle.std.specs.Prelude.{ℕ, ◌<◌, Result, Ok, Err, Option as Maybe, Some, None}
 
 abbrev pub relation_is : RelationGiven → Relation
 relation_is Equal = equal
 relation_is Inverse = inverses
+
+-- the shape of a kind
+abbrev pub kind_is : Kind → Shape
+kind_is Plain = atomic plain
+kind_is Public = atomic public
+kind_is Private = atomic private
+kind_is Pair = compound pair
+kind_is Enc = compound (encryption symmetric)
+kind_is Enca = compound (encryption asymmetric)
+kind_is Hash = compound hash
+
+-- the shape of a kind, where there is one
+abbrev pub shape_read : Maybe Kind → Option Shape
+shape_read None = none
+shape_read (Some k) = some (kind_is k)
+
+-- a number is read as this kind, or as none
+abbrev pub Decodes : ℕ → Result Kind UnknownKind → Type 0
+Decodes n (Ok k) = shape_of n ≡ some (kind_is k)
+Decodes n (Err e) = shape_of n ≡ none
+
+-- one kind is that of public keys and the other that of private ones
+abbrev pub are_inverse_kinds : Kind → Maybe Kind → Bool
+are_inverse_kinds Public (Some Private) = true
+are_inverse_kinds Private (Some Public) = true
+are_inverse_kinds _ _ = false
+
+-- the number of a rule, or `rules` where there is none
+abbrev pub rule_is : Maybe ℕ → ℕ
+rule_is None = rules
+rule_is (Some n) = n
 
 -- a record of this shape has one operand
 abbrev pub is_unary : Option Shape → Bool

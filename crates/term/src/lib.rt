@@ -2,8 +2,10 @@
 // Promises: every function is total, for all bytes, and its answer is the table's, as specs/ has it.
 #![tactic(auto)]
 
-pub mod kinds;
+pub mod kind;
 pub mod rules;
+
+pub use kind::{Kind, UnknownKind};
 
 // What a test asks of two terms: that they are equal, or that the first is a key and the second its inverse.
 #[derive(Clone, Copy)]

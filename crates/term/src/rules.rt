@@ -1,4 +1,4 @@
-// The rules by their numbers, and what the table says of them.
+// The rules by their numbers, and what the table says of them. They stay numbers: the machine is to match on the rule number.
 ghost use Rattle.std.specs.Prelude.{◌≡◌};
 ghost use Rattle.term.specs.Number.{has_one};
 ghost use Rattle.term.specs.Computed.{rule_takes_apart, is_rule};

@@ -1,28 +1,23 @@
--- What was read stands at the front of the buffer, in the order of the input, and its verdict is that of all of the input.
-use Rattle.std.proofs.Common.{inl, inr, ◌≡◌, ℕ, ◌+◌, ◌≤◌, List, ◌++◌, Option, None, Some, arith, length, take, sym, ap, ap₂, ◌∙◌, subst, le_refl, drop_at, length-take-le, take_all}
-use Rattle.std.proofs.lemmas.Slice.{take-put_mid_below}
+-- The verdict of what was read is that of all of the input.
+use Rattle.std.proofs.Common.{inl, inr, ◌≡◌, ℕ, List, Option, None, Some, IfSome, Result, Ok, Err, IfOk, MatchResult, arith, length, take, ap, ◌∙◌, subst, take_all}
 use Rattle.std.specs.Io.KnownBytes.{Appends}
-use borrow.Rule.Slice.PartMut.{put_mid, post_of}
-use lib.Seq.{take-add, take-append-le}
 use Rattle.base.proofs.Order.{lt_or_ge}
 use Rattle.base.specs.Words.{Bytes}
 use Rattle.checker.proofs.Theory.LongInput.{long_text}
 use Rattle.checker.specs.Calls.{verdict_text}
-use Rattle.verdict.specs.Code.{Begins, Answered}
-use Rattle.verdict.specs.declared.Ending.TheVariants.{Printed}
-use Rattle.verdict.specs.declared.Input.TheVariants.{Read}
+use Rattle.verdict.specs.Code.{Answered}
+use Rattle.verdict.specs.declared.Failure.{Failure}
 
--- a read into what is left of the buffer goes on where the one before it ended
-pub read_on : (at room n : ℕ) (buffer part : List ℕ) → at ≤ length buffer → n ≤ length part → take at buffer ++ take n part ≡ take (at + n) (put_mid at room buffer part)
-read_on at room n buffer part within fits =
-    let after = post_of at room buffer in
-    let rest = ap (take n) (drop_at (take at buffer) (part ++ after) at (length-take-le at buffer within)) ∙ take-append-le n part after fits in
-    sym (take-add at n (put_mid at room buffer part) ∙ ap₂ (λ l m. l ++ m) (take-put_mid_below at room buffer part at (le_refl at) within) rest)
+-- a value that passes `map_err` is that of the call before
+pub passed : {T E : Type 0} (P : T → Type 0) (r : Result T E) (x : T) → MatchResult r (λ y. ◌≡◌ {A = Result T Failure} (Ok x) (Ok y)) (λ e. ⊥) → IfOk r P → P x
+passed P (Ok y) x same h = subst P (cc) h
+passed P (Err e) x same h = absurd same
 
 -- the first 4,096 bytes of an input have its text
 text_of_whole : (bytes : List ℕ) → Bytes bytes → verdict_text (take 4096 bytes) ≡ verdict_text bytes
 text_of_whole bytes b = elim (lt_or_ge (length bytes) 4096) [ inl h ↦ ap verdict_text (take_all 4096 bytes (omega arith)) | inr h ↦ long_text bytes b h ]
 
-pub answered : (input out out' : Option (List ℕ)) (n : ℕ) (buffer : List ℕ) → length buffer ≡ 4096 → Begins input (Read n) buffer → Appends out out' (verdict_text (take n buffer)) → Answered input Printed out out'
-answered None out out' n buffer l h a = tt
-answered (Some bytes) out out' n buffer l h a = λ b. subst (Appends out out') (ap verdict_text (h ∙ ap (λ k. take k bytes) l) ∙ text_of_whole bytes b) a
+pub answered : {T : Type 0} (input out out' : Option (List ℕ)) (n : ℕ) (buffer : List ℕ) (x : T) → length buffer ≡ 4096
+    → IfSome input (λ bytes. take n buffer ≡ take (length buffer) bytes) → Appends out out' (verdict_text (take n buffer)) → Answered input (Ok x) out out'
+answered None out out' n buffer x l h a = tt
+answered (Some bytes) out out' n buffer x l h a = λ b. subst (Appends out out') (ap verdict_text (h ∙ ap (λ k. take k bytes) l) ∙ text_of_whole bytes b) a

@@ -4,67 +4,49 @@
 // standard input and output are not: what is read and written there is as std has it.
 #![tactic(auto)]
 
-ghost use Rattle.verdict.specs.Code.{Within, Begins, Answered};
+ghost use Rattle.std.specs.Prelude.{Some};
+ghost use Rattle.verdict.specs.Code.{message, Answered};
 
+use std::fmt;
 use std::io::{Read, Write};
 use std::process::ExitCode;
 
-// How many bytes were read, or that a read failed.
-#[derive(Clone, Copy)]
-pub enum Input {
-    Read(usize),
-    Failed,
-}
-
-// Whether the verdict was printed, and where not, what failed.
-#[derive(Clone, Copy)]
-pub enum Ending {
-    Printed,
+// Why no verdict was printed.
+#[derive(Clone, Copy, PartialEq, Eq)]
+pub enum Failure {
     NotRead,
     NotWritten,
 }
 
-// Reads until the input ends or the buffer is full.
-fn read_input<R: Read>(from: &mut R, buffer: &mut [u8]) -> Input
-    ensures within { Within result buffer.new }
-    ensures begins { Begins (R.remaining from.old) result buffer.new }
-{
-    let mut done: usize = 0;
-    while done < buffer.len() {
-        let Ok(more) = from.read(&mut buffer[done..]) else {
-            return Input::Failed;
-        };
-        if more == 0 {
-            return Input::Read(done);
+impl fmt::Display for Failure {
+    ghost output = { λ failure. Some (message failure) };
+
+    fn fmt<W: fmt::Write>(&self, f: &mut fmt::Formatter<W>) -> fmt::Result {
+        match self {
+            Failure::NotRead => write!(f, "standard input could not be read"),
+            Failure::NotWritten => write!(f, "the verdict could not be written"),
         }
-        done += more;
     }
-    Input::Read(done)
 }
 
 // Reads a submission and prints its verdict.
-fn answer<R: Read, W: Write>(from: &mut R, to: &mut W) -> Ending
+fn answer<R: Read, W: Write>(from: &mut R, to: &mut W) -> Result<(), Failure>
     ensures { Answered (R.remaining from.old) result (W.contents to.old) (W.contents to.new) }
 {
     // An input of 4,096 bytes or more gets the text of its first 4,096: none over 3,076 bytes passes check 1.
     let mut input = [0u8; 4096];
-    let Input::Read(length) = read_input(from, &mut input) else {
-        return Ending::NotRead;
-    };
+    let length = input::read(from, &mut input).map_err(|_| Failure::NotRead)?;
     let mut text = [0u8; 4096];
     let written = checker::write_verdict(&input[..length], &mut text);
-    match to.write_all(&text[..written]) {
-        Ok(()) => Ending::Printed,
-        Err(_) => Ending::NotWritten,
-    }
+    to.write_all(&text[..written])
+        .map_err(|_| Failure::NotWritten)?;
+    Ok(())
 }
 
 fn main(rt: HostRuntime) -> ExitCode {
-    let message = match answer(&mut rt.stdin(), &mut rt.stdout()) {
-        Ending::Printed => return ExitCode::SUCCESS,
-        Ending::NotRead => "standard input could not be read",
-        Ending::NotWritten => "the verdict could not be written",
+    let Err(failure) = answer(&mut rt.stdin(), &mut rt.stdout()) else {
+        return ExitCode::SUCCESS;
     };
-    let _ = eprintln!(rt; "{message}");
+    let _ = eprintln!(rt; "{failure}");
     ExitCode::FAILURE
 }

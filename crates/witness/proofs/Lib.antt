@@ -1,5 +1,5 @@
 pub mod CallReturns
-pub mod Choice
+pub mod ChoiceLaws
 pub mod ShownSteps
 pub mod StepsFrom
 -- Laws about the definitions:

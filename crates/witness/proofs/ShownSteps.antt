@@ -1,12 +1,17 @@
 -- The steps of the chosen terms: the records on the page, and that they are a deduction.
 use mathlib.Core.Path.{◌≡◌, refl, sym, ap, ◌∙◌, subst}
 use mathlib.Core.Logic.{◌↔◌, inl, inr, ⊎_elim}
+use mathlib.Core.Bool.{Bool}
 use mathlib.Core.List.{List}
-use Prim.Native.Nat.{ℕ, suc, ◌+◌, ◌-◌, ◌*◌, ◌≤◌, ◌<◌}
+use Prim.Native.Nat.{ℕ, zero, suc, ◌+◌, ◌-◌, ◌*◌, ◌≤◌, ◌<◌}
 use native.Mathlib.Omega.{arith}
-use lib.ListN.{get_or}
-use Rattle.base.specs.{Words.fours, Words.byte, Answer.Puts}
-use Rattle.base.proofs.{Fours.fours_length, Fours.fours_at, PutLaws.puts_none, PutLaws.puts_then}
+use native.Mathlib.Numerals.{add-one}
+use lib.ListN.{length, get_or, take, drop, length-drop}
+use lib.Seq.{sets, length-take-le}
+use Rattle.std.proofs.lemmas.List.{get_or-take, get_or-drop}
+use Rattle.base.specs.declared.writer.Writer.{Writer}
+use Rattle.base.specs.{Words.fours, Words.byte, Answer.Wrote}
+use Rattle.base.proofs.{Fours.fours_length, Fours.fours_at, PutLaws.wrote_none, PutLaws.wrote_then}
 use Rattle.term.specs.Term.{Term}
 use Rattle.submission.specs.Record.{terms, second_for, term, InKnowledge}
 use Rattle.submission.specs.Code.{TableRead}
@@ -14,55 +19,59 @@ use Rattle.submission.proofs.Theory.ListedTerms.{facts}
 use Rattle.derivation.specs.Step.{RecordFits}
 use Rattle.derivation.specs.declared.Step.{Step}
 use Rattle.deduction.specs.Computed.{entry_marks}
-use Rattle.deduction.specs.Code.{marks_of, SameMarks}
-use Rattle.saturation.specs.Code.{start_mark, AllReached}
+use Rattle.deduction.specs.Code.{SameMarks}
+use Rattle.deduction.specs.Saturation.{start_mark, AllReached}
 use Rattle.deduction.proofs.{Theory.Exactness.in_knowledge_iff}
-use Rattle.saturation.proofs.{MarkArrays.says_mark}
 use Rattle.witness.specs.Deduction.{rule_in, p_in, q_in, conclusion_in, PremiseIn, KnownBefore, Deduction}
-use Rattle.witness.specs.Code.{concluding_step, concluding_second, ConcludingPremise, HasStep, ChosenSteps, Chosen, step_bytes, steps_bytes}
+use Rattle.witness.specs.Code.{concluding_step, concluding_second, ConcludingPremise, HaveSteps, ChosenSteps, Chosen, step_bytes, first_steps, steps_bytes}
 use Rattle.witness.proofs.StepsFrom.{Infers, infers}
 
--- ---- the returns of `put_step` and `put_steps`
-pub step_put : (s marks : List ℕ) (n : ℕ) {page page' : List ℕ} {i j : ℕ} {a : Step} → a ≡ concluding_step s marks n → Puts page i (step_bytes a) page' j → Puts page i (step_bytes (concluding_step s marks n)) page' j
-step_put s marks n e p = rw e at p
+-- ---- the loop of `put_steps`: the records of the first i steps are written
+pub record Putting (s marks chosen : List ℕ) (w : Writer) (i : ℕ) (v : Writer) : Type 0 where
+  pub within : i ≤ length chosen
+  pub wrote : Wrote w (first_steps s marks chosen i) v
 
-pub record Putting (s marks chosen page₀ : List ℕ) (from : ℕ) (page : List ℕ) (place i : ℕ) : Type 0 where
-  pub after : from ≤ i
-  pub within : i ≤ 256
-  pub puts : Puts page₀ 0 (steps_bytes s marks chosen from (i - from)) page place
-
-module _ {s marks chosen : List ℕ} {from : ℕ} (c : ChosenSteps s marks chosen from) where
-  pub putting_none : (page : List ℕ) → Putting s marks chosen page from page 0 from
+module _ {s marks chosen : List ℕ} where
+  pub putting_none : {w : Writer} → Putting s marks chosen w 0 w
   unfolding fours
-  putting_none page =
-      let e : from - from ≡ 0 = omega arith in
-      record { after = omega arith; within = c.within; puts = rw e puts_none }
+  putting_none = record { within = omega arith; wrote = wrote_none }
 
-  module _ {page₀ page : List ℕ} {place i : ℕ} (p : Putting s marks chosen page₀ from page place i) where
-    pub putting_concluded : i < 256 → HasStep s marks (get_or chosen i 0)
-    putting_concluded b = c.concluded i p.after b
-
-    pub putting_more : {page' : List ℕ} {place' : ℕ} → i < 256 → Puts page place (step_bytes (concluding_step s marks (get_or chosen i 0))) page' place' → Putting s marks chosen page₀ from page' place' (i + 1)
+  module _ {w v : Writer} {i : ℕ} (p : Putting s marks chosen w i v) where
+    pub putting_more : {u : Writer} {a : Step} → i < length chosen → a ≡ concluding_step s marks (get_or chosen i 0) → Wrote v (step_bytes a) u → Putting s marks chosen w (i + 1) u
     unfolding fours
-    putting_more b x =
-        let e : i + 1 - from ≡ suc (i - from) = omega (arith, p.after) in
-        let f : from + (i - from) ≡ i = omega (arith, p.after) in
-        record { after = omega (arith, p.after); within = omega arith; puts = rw (e, f) (puts_then p.puts x) }
+    putting_more l e x = record { within = omega arith; wrote = rw add-one (wrote_then p.wrote (rw e at x)) }
 
-    pub putting_end : 256 ≤ i → Puts page₀ 0 (steps_bytes s marks chosen from (256 - from)) page place
-    putting_end b = let e : i ≡ 256 = omega (arith, p.within) in rw e at p.puts
+    -- the buffer is the page p again
+    pub putting_end : {d page' : List ℕ} → length chosen ≤ i → w.buffer.now ≡ d → w.at ≡ 0 → page' ≡ v.buffer.now → page' ≡ sets d 0 (steps_bytes s marks chosen)
+    putting_end l e f g =
+        let z : i ≡ length chosen = omega (arith, p.within) in
+        g ∙ p.wrote.puts.stored ∙ rw (e, f, z)
+
+-- records that are alike
+alike : (f g : ℕ → List ℕ) (n : ℕ) → ((i : ℕ) → i < n → f i ≡ g i) → fours f n ≡ fours g n
+unfolding fours
+alike f g zero h = refl
+alike f g (suc n) h = rw (alike f g n (λ i l. h i (omega arith)), h n (omega arith))
+
+-- each of the chosen terms alone has a step
+pub part_steps : {s marks chosen : List ℕ} {from : ℕ} → ChosenSteps s marks chosen from → HaveSteps s marks (take (length chosen - from) (drop from chosen))
+part_steps {chosen = chosen} {from} c = record {
+  concluded = λ i b.
+      let n : length (take (length chosen - from) (drop from chosen)) ≡ 256 - from = omega (arith, c.long, length-take-le (length chosen - from) (drop from chosen) (omega (arith, length-drop from chosen))) in
+      rw (get_or-take (length chosen - from) (drop from chosen) i 0 (omega (arith, c.long)), get_or-drop) (c.concluded (from + i) (omega arith) (omega arith));
+}
 
 -- ---- terms from the start are those of the knowledge
-module _ {s start marks order : List ℕ} {end : ℕ} (v : TableRead s) (m : SameMarks s (marks_of start) (entry_marks s)) (w : AllReached s start marks order end) where
+module _ {s marks order : List ℕ} {start : List Bool} {end : ℕ} (v : TableRead s) (m : SameMarks s start (entry_marks s)) (w : AllReached s start marks order end) where
   pub started_iff : (n : ℕ) → n < terms s → (get_or marks n 0 ≡ start_mark) ↔ InKnowledge s (term s n)
   started_iff n l =
       let (f, g) = w.from_start n l in
       let (h, k) = in_knowledge_iff (facts v) (term s n) in (
-        λ e. k (n, l, (sym (m.same n l) ∙ (says_mark start n).1 (f e), refl)),
+        λ e. k (n, l, (sym (m.same n l) ∙ f e, refl)),
         λ e.
             let (j, b, (x, y)) = h e in
             let z : n ≡ j = (facts v).same_number n j l b y in
-            g ((says_mark start n).0 (m.same n l ∙ rw z x)),
+            g (m.same n l ∙ rw z x),
       )
 
 -- ---- the steps are a deduction
@@ -71,7 +80,7 @@ module _ {s marks chosen : List ℕ} {t from : ℕ} (v : TableRead s) (known : (
   count = 256 - from
 
   abbrev l : List ℕ
-  l = steps_bytes s marks chosen from (256 - from)
+  l = fours (λ i. step_bytes (concluding_step s marks (get_or chosen (from + i) 0))) (256 - from)
 
   -- the term that step i concludes
   abbrev chosen_at : ℕ → ℕ
@@ -143,8 +152,8 @@ module _ {s marks chosen : List ℕ} {t from : ℕ} (v : TableRead s) (known : (
       let y' : ConcludingPremise s marks (chosen_at (j - from)) (chosen_at i) = rw e y in
       (j - from, omega arith, o, rw (conclusion_is i (omega arith)) (premise_in (j - from) o (chosen_at i) y'))
 
-  pub chosen_deduction : Deduction s t (256 - from) (steps_bytes s marks chosen from (256 - from))
-  chosen_deduction = record {
+  chosen_shown : Deduction s t (256 - from) l
+  chosen_shown = record {
     long = fours_length (λ i. step_bytes (concluding_step s marks (get_or chosen (from + i) 0))) (λ i. refl) (256 - from);
     fits = fits;
     founded = founded;
@@ -154,3 +163,9 @@ module _ {s marks chosen : List ℕ} {t from : ℕ} (v : TableRead s) (known : (
         (λ (_, f). let z : from + i ≡ 255 = omega arith in conclusion_is i (omega arith) ∙ ap (λ k. get_or chosen k 0) z ∙ f) c.last;
     used = used;
   }
+
+  -- the chosen terms alone
+  pub chosen_deduction : (part : List ℕ) → length part ≡ 256 - from → ((i : ℕ) → i < 256 - from → get_or part i 0 ≡ get_or chosen (from + i) 0) → Deduction s t (length part) (steps_bytes s marks part)
+  chosen_deduction part e f =
+      let g : steps_bytes s marks part ≡ l = ap (first_steps s marks part) e ∙ alike _ _ (256 - from) (λ i b. ap (λ n. step_bytes (concluding_step s marks n)) (f i b)) in
+      subst (λ n. Deduction s t n (steps_bytes s marks part)) (sym e) (subst (Deduction s t (256 - from)) (sym g) chosen_shown)

@@ -1,85 +1,56 @@
--- The step by which a term comes from a record: the returns of `built_step` to `concluding_step`, and that the step is one of the table.
+-- The step by which a term comes from a record: that it is one of the table, and its premises what the term comes from.
 use mathlib.Core.Path.{◌≡◌, refl, sym, ap, ◌∙◌}
 use mathlib.Core.Logic.{◌⊎◌, ⊎_elim}
 use mathlib.Core.Bool.{Bool, true, false, cond}
 use mathlib.Core.List.{List}
 use mathlib.Core.Option.{some}
-use Prim.Native.Nat.{ℕ, ◌-◌, ◌≤◌, ◌<◌}
+use Prim.Native.Nat.{ℕ, ◌<◌}
 use native.Mathlib.Omega.{arith}
 use lib.Dec.{eqb}
-use lib.ListN.{get_or}
 use borrow.Author.Tests.{eq-eqb, ne_eqb, eqb-true, eqb-false}
 use Rattle.term.specs.Term.{symmetric, asymmetric, left, right, pair, hash, encryption, unary, Second, absent, anything, key_for, second, make, part, Shape, atomic, compound}
 use Rattle.term.specs.{Number.shape_of, Number.head_of, Number.has_one, Code.rule_of, Code.builder_of}
-use Rattle.term.proofs.{Rule.head_rule, Rule.rule_below, Kind.shape_kind}
-use Rattle.submission.specs.declared.Term.{Term}
+use Rattle.term.proofs.{Rule.head_rule, Rule.rule_below, KindLaws.shape_kind}
+use Rattle.std.specs.Prelude.{Option as Maybe, Some, None}
+use Rattle.std.specs.Option.{option_eq}
+use Rattle.term.specs.Computed.{kind_of}
+use Rattle.term.specs.Code.{kind_is, shape_read}
+use Rattle.term.specs.declared.kind.Kind.{Kind}
+use Rattle.term.specs.declared.kind.Kind.TheVariants.{Plain, Public, Private, Pair, Enc, Enca, Hash}
+use Rattle.term.specs.contracts.kind.KindPartialEq.TheImpl as same
+use Rattle.term.proofs.KindLaws.{kind_number, kind_not}
 use Rattle.submission.specs.Check.{HasSecond, Shaped}
-use Rattle.submission.specs.Code.{TableRead, IsTerm}
+use Rattle.submission.specs.Code.{TableRead}
 use Rattle.submission.specs.{Record.terms, Record.kind_at, Record.x_at, Record.y_at, Record.record_at, Record.second_for, Computed.are_inverse}
 use Rattle.submission.proofs.Theory.ListedTerms.{facts}
 use Rattle.inverse.specs.Computed.{inverse_of}
 use Rattle.derivation.specs.Step.{RecordFits}
 use Rattle.derivation.specs.declared.Step.{Step}
 use Rattle.derivation.proofs.Theory.StepMeaning.{record_fits}
-use Rattle.deduction.specs.declared.Parts.TheVariants.{Nothing, Both}
-use Rattle.deduction.specs.declared.Opening.{Opening}
-use Rattle.deduction.specs.declared.Opening.TheVariants.{Freely, With, Shut}
+use Rattle.deduction.specs.declared.opening.Opening.{Opening}
+use Rattle.deduction.specs.declared.opening.Opening.TheVariants.{Freely, With, Shut}
 use Rattle.deduction.specs.Code.{parts_of, opening_in, opening_of}
-use Rattle.saturation.specs.Code.{ComesFrom, from_parts, from_pair, from_key}
+use Rattle.deduction.specs.Saturation.{ComesFrom, from_parts, from_pair, from_key}
 use Rattle.deduction.proofs.{BuildMemo.shape_record, OpeningKeys.the_inverse, RecordOpening.with_listed}
-use Rattle.witness.specs.Code.{built_step, part_rule, part_step, opening_rule, with_step, opened_step, step_from, concluding_step, HasStep}
+use Rattle.witness.specs.Code.{built_step, part_step, with_step, step_from}
 
--- ---- the returns
-module _ {s : List ℕ} {n : ℕ} {a : Term} (i : IsTerm s n a) where
-  pub built_is : {r : ℕ} → r ≡ builder_of (shape_of a.kind) → ◌≡◌ {A = Step} (record { rule = r; p = a.x; q = a.y; conclusion = n }) (built_step s n)
-  built_is e = rw (e, i.kind, i.x, i.y)
+-- ---- a kind that is read
+-- whether the kind that is read is that of the symmetric cipher
+pub is_enc : (k : ℕ) (m : Maybe Kind) → shape_read m ≡ shape_of k → option_eq same.eq-value.it m (Some Enc) ≡ eqb k 5
+is_enc k m e = go m refl
+  where
+    at : (b : Kind) → same.eq-value.it b Enc ≡ eqb (kind_of (kind_is b)) 5
+    at Plain = refl
+    at Public = refl
+    at Private = refl
+    at Pair = refl
+    at Enc = refl
+    at Enca = refl
+    at Hash = refl
 
-  pub with_is : {r : ℕ} (key t : ℕ) → r ≡ opening_rule a.kind → ◌≡◌ {A = Step} (record { rule = r; p = n; q = key; conclusion = t }) (with_step s n key t)
-  with_is key t e = rw (e, i.kind)
-
-pub symmetric_rule : (kind : ℕ) → kind ≡ 5 → 4 ≡ opening_rule kind
-symmetric_rule kind e = rw e
-
-pub other_rule : (kind : ℕ) → (kind ≡ 5 → ⊥) → 6 ≡ opening_rule kind
-other_rule kind d = rw (ne_eqb kind 5 d)
-
-pub first_rule : (x n : ℕ) → x ≡ n → 1 ≡ part_rule x n
-first_rule x n e = rw (eq-eqb x n e)
-
-pub second_rule : (x n : ℕ) → (x ≡ n → ⊥) → 2 ≡ part_rule x n
-second_rule x n d = rw (ne_eqb x n d)
-
-pub part_is : {r : ℕ} (u x n : ℕ) → r ≡ part_rule x n → ◌≡◌ {A = Step} (record { rule = r; p = u; q = 0; conclusion = n }) (part_step u x n)
-part_is u x n e = rw e
-
-module _ {r : Step} (s : List ℕ) (u n : ℕ) {o : Opening} (c : o ≡ opening_of s u) where
-  pub opened_freely : {x y : ℕ} → o ≡ Freely x y → r ≡ part_step u x n → r ≡ opened_step s u n (opening_of s u)
-  opened_freely e f = rw (← c, e) f
-
-  pub opened_with : {body key : ℕ} → o ≡ With body key → r ≡ with_step s u key n → r ≡ opened_step s u n (opening_of s u)
-  opened_with e f = rw (← c, e) f
-
-  pub opened_shut : o ≡ Shut → r ≡ with_step s u 0 n → r ≡ opened_step s u n (opening_of s u)
-  opened_shut e f = rw (← c, e) f
-
-module _ {r : Step} (s : List ℕ) (u n : ℕ) where
-  pub from_own : u ≡ n → r ≡ built_step s n → r ≡ step_from s u n
-  unfolding step_from
-  from_own e f = rw (eq-eqb u n e) f
-
-  pub from_other : (u ≡ n → ⊥) → r ≡ opened_step s u n (opening_of s u) → r ≡ step_from s u n
-  unfolding step_from
-  from_other d f = rw (ne_eqb u n d) f
-
-module _ {s marks : List ℕ} {w n : ℕ} (c : HasStep s marks n) (e : w ≡ n) where
-  pub mark_some : 1 ≤ get_or marks w 0
-  mark_some = rw e c.some
-
-  pub mark_from : get_or marks w 0 - 1 < terms s
-  mark_from = rw e c.from
-
-  pub of_mark : {r : Step} → r ≡ step_from s (get_or marks w 0 - 1) n → r ≡ concluding_step s marks n
-  of_mark f = rw e at f
+    go : (n : Maybe Kind) → m ≡ n → option_eq same.eq-value.it n (Some Enc) ≡ eqb k 5
+    go None f = sym (ne_eqb _ _ (kind_not Enc e (λ g. let z : None ≡ Some Enc = sym f ∙ g in absurd (cc))))
+    go (Some b) f = rw (kind_number e f) (at b)
 
 -- ---- the step is one of the table, and its premises are what the term comes from
 pub record Infers (s : List ℕ) (Had : ℕ → Type 0) (n : ℕ) (a : Step) : Type 0 where
@@ -90,7 +61,7 @@ pub record Infers (s : List ℕ) (Had : ℕ → Type 0) (n : ℕ) (a : Step) : T
 
 module _ {s : List ℕ} (v : TableRead s) {Had : ℕ → Type 0} {u n : ℕ} (l : u < terms s) (k : n < terms s) where
   -- built of its parts
-  infers_built : {x y : ℕ} → parts_of (record_at s n) ≡ Both x y → Had x → Had y → Infers s Had n (built_step s n)
+  infers_built : {x y : ℕ} → parts_of (record_at s n) ≡ Some (x, y) → Had x → Had y → Infers s Had n (built_step s n)
   unfolding second_for has_one
   infers_built {x} {y} p a b = go ((facts v).good n k).shape ((facts v).good n k).has ((facts v).good n k).fits
     where
@@ -100,11 +71,12 @@ module _ {s : List ℕ} (v : TableRead s) {Had : ℕ → Type 0} {u n : ℕ} (l 
       below (key_for c) (h, _) = omega arith
 
       go : (z : Shape) → shape_of (kind_at s n) ≡ some z → Shaped s n z → Infers s Had n (built_step s n)
-      go (atomic κ) e w = absurd (let z : Nothing ≡ Both x y = sym (ap parts_of (shape_record s n (atomic κ) e)) ∙ p in let d : ◌≡◌ {A = ℕ} 0 1 = cc in omega arith)
+      go (atomic κ) e w = absurd (let z : ◌≡◌ {A = Maybe (ℕ × ℕ)} None (Some (x, y)) = sym (ap parts_of (shape_record s n (atomic κ) e)) ∙ p in let d : ◌≡◌ {A = ℕ} 0 1 = cc in omega arith)
       go (compound f) e (lx, h) =
-          let q : Both (x_at s n) (cond (unary (second f)) (x_at s n) (y_at s n)) ≡ Both x y = sym (ap parts_of (shape_record s n (compound f) e)) ∙ p in
-          let ex : x_at s n ≡ x = cc in
-          let ey : cond (unary (second f)) (x_at s n) (y_at s n) ≡ y = cc in
+          let q : ◌≡◌ {A = Maybe (ℕ × ℕ)} (Some (x_at s n, cond (unary (second f)) (x_at s n) (y_at s n))) (Some (x, y)) = sym (ap parts_of (shape_record s n (compound f) e)) ∙ p in
+          let w : ◌≡◌ {A = ℕ × ℕ} (x_at s n, cond (unary (second f)) (x_at s n) (y_at s n)) (x, y) = cc in
+          let ex : x_at s n ≡ x = ap (λ (a, b). a) w in
+          let ey : cond (unary (second f)) (x_at s n) (y_at s n) ≡ y = ap (λ (a, b). b) w in
           let r : builder_of (shape_of (kind_at s n)) ≡ rule_of (make f) = ap builder_of e in
           let head : head_of (builder_of (shape_of (kind_at s n))) ≡ make f = ap head_of r ∙ head_rule (make f) in
           record {

@@ -1,13 +1,15 @@
 -- What the code's steps and arrays mean.
-use Rattle.base.specs.{Words.true, Words.cond, Words.List, Words.[], Words.ℕ, Words.eqb, Words.length, Words.get_or, Words.fours}
-use Rattle.std.specs.Prelude.{set, ◌≡◌, ◌↔◌, ◌⊎◌, ◌∷◌, ◌+◌, ◌-◌, ◌≤◌, ◌<◌}
+use Rattle.base.specs.{Words.true, Words.false, Words.cond, Words.List, Words.[], Words.ℕ, Words.eqb, Words.length, Words.get_or, Words.fours}
+use Rattle.std.specs.Prelude.{set, ◌≡◌, ◌↔◌, ◌⊎◌, ◌∷◌, ◌-◌, ◌≤◌, ◌<◌}
 use Rattle.term.specs.{Term.symmetric, Term.asymmetric, Term.left, Term.right, Term.encryption, Term.part, Term.decrypt, Term.compound, Number.shape_of, Computed.kind_of, Code.rule_of, Code.builder_of}
 use Rattle.submission.specs.Record.{terms, kind_at, x_at, y_at, second_for, term, InKnowledge}
 use Rattle.derivation.specs.declared.Step.{Step}
-use Rattle.deduction.specs.declared.Opening.{Opening}
-use Rattle.deduction.specs.declared.Opening.TheVariants.{Freely, With, Shut}
+use Rattle.witness.specs.declared.marked.Choice.{Choice}
+use Rattle.deduction.specs.declared.opening.Opening.{Opening}
+use Rattle.deduction.specs.declared.opening.Opening.TheVariants.{Freely, With, Shut}
 use Rattle.deduction.specs.{Computed.entry_marks, Computed.is_deducible, Code.opening_of}
-use Rattle.saturation.specs.Code.{start_mark, Reached, ComesFrom, Queue}
+use Rattle.deduction.specs.Saturation.{start_mark, ComesFrom, Queue}
+use Rattle.deduction.specs.Code.{Reached}
 
 -- ---- the step that concludes a term
 -- the step that builds term n of its parts; the y of a record with one operand is 0, and so is q
@@ -62,14 +64,26 @@ pub record StartedOrHasStep (s marks : List ℕ) (n : ℕ) : Type 0 where
   pub all : length marks ≡ 256
 
 -- ---- the steps that are needed
--- term n is put before the chosen ones, if it is needed and not from the start, and the premises of its step are needed then
-abbrev pub ChosenOne : List ℕ → List ℕ → ℕ → List ℕ → List ℕ → ℕ → List ℕ → List ℕ → ℕ → Type 0
-ChosenOne s marks n needed chosen at needed' chosen' r =
-    (((get_or needed n 0 ≡ 0) ⊎ (get_or marks n 0 ≡ start_mark)) × (needed' ≡ needed) × (chosen' ≡ chosen) × (r ≡ at))
-    ⊎ ((get_or needed n 0 ≡ 0 → ⊥) × (get_or marks n 0 ≡ start_mark → ⊥) × (needed' ≡ set (set needed (concluding_step s marks n).p 1) (concluding_second s marks n) 1)
-    × (chosen' ≡ set chosen (at - 1) n) × (r ≡ at - 1))
+-- term n put before the chosen ones, and the premises of its step needed
+abbrev pub with_term : List ℕ → List ℕ → ℕ → Choice → Choice
+with_term s marks n c =
+    record {
+      needed = set (set c.needed (concluding_step s marks n).p true) (concluding_second s marks n) true;
+      chosen = set c.chosen (c.from - 1) n;
+      from = c.from - 1;
+    }
 
--- each of the terms from `from` on is concluded by a step
+-- term n is chosen, if it is needed and not from the start
+abbrev pub ChosenOne : List ℕ → List ℕ → ℕ → Choice → Choice → Type 0
+ChosenOne s marks n c c' =
+    (((get_or c.needed n false ≡ false) ⊎ (get_or marks n 0 ≡ start_mark)) × (c' ≡ c))
+    ⊎ ((get_or c.needed n false ≡ true) × (get_or marks n 0 ≡ start_mark → ⊥) × (c' ≡ with_term s marks n c))
+
+-- each of these terms is concluded by a step
+pub record HaveSteps (s marks chosen : List ℕ) : Type 0 where
+  pub concluded : (i : ℕ) → i < length chosen → HasStep s marks (get_or chosen i 0)
+
+-- each of the terms from `from` on is
 pub record ChosenSteps (s marks chosen : List ℕ) (from : ℕ) : Type 0 where
   pub long : length chosen ≡ 256
   pub within : from ≤ 256
@@ -104,6 +118,9 @@ pub record FromKnowledge (s marks order : List ℕ) (end : ℕ) : Type 0 where
 abbrev pub step_bytes : Step → List ℕ
 step_bytes a = a.rule ∷ a.p ∷ a.q ∷ a.conclusion ∷ []
 
--- the records of the steps of n chosen terms, from `from` on
-abbrev pub steps_bytes : List ℕ → List ℕ → List ℕ → ℕ → ℕ → List ℕ
-steps_bytes s marks chosen from n = fours (λ i. step_bytes (concluding_step s marks (get_or chosen (from + i) 0))) n
+-- the records of the steps of the first n of these terms
+abbrev pub first_steps : List ℕ → List ℕ → List ℕ → ℕ → List ℕ
+first_steps s marks chosen n = fours (λ i. step_bytes (concluding_step s marks (get_or chosen i 0))) n
+
+abbrev pub steps_bytes : List ℕ → List ℕ → List ℕ → List ℕ
+steps_bytes s marks chosen = first_steps s marks chosen (length chosen)

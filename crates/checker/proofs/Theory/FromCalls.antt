@@ -7,8 +7,8 @@ use Prim.Native.Nat.{ℕ, suc, ◌*◌, ◌<◌, ◌≤◌}
 use native.Mathlib.Omega.{arith}
 use lib.ListN.{length, take, drop}
 use lib.Seq.{take-append_seam, drop-append_seam, take_at, drop_at, get_or-take}
-use Rattle.base.specs.declared.Answer.{Answer as AnswerGiven}
-use Rattle.base.specs.declared.Answer.TheVariants as given
+use Rattle.std.specs.Prelude.{Result, Ok, Err}
+use Rattle.base.specs.declared.refusal.Refusal.{Refusal}
 use Rattle.base.specs.Answer.{Answer, done, refused, page_after, Writes, Clear, Refuses, answer_of, numbered, row11}
 use Rattle.base.specs.Words.{byte, Bytes}
 use Rattle.base.proofs.AnswerLaws.{refused_page}
@@ -53,18 +53,20 @@ same_verdict (Accepted m) (Refused n p) e = cc
 same_verdict (Refused m q) (Accepted n) e = cc
 same_verdict (Refused m q) (Refused n p) e = cc
 
-same_answer : (r u : AnswerGiven) → answer_of r ≡ answer_of u → r ≡ u
-same_answer (given.Done m) (given.Done n) e = cc
-same_answer (given.Done m) (given.Refused n p) e = cc
-same_answer (given.Refused m q) (given.Done n) e = cc
-same_answer (given.Refused m q) (given.Refused n p) e = cc
+same_value : (r : Result ℕ Refusal) (n : ℕ) → answer_of r ≡ done n → r ≡ Ok n
+same_value (Ok m) n e = cc
+same_value (Err x) n e = cc
 
 -- so what was returned is u exactly when the answer is what u stands for
 returned_verdict : (v u : Verdict) {a : Answer} → verdict_answer v ≡ a → (v ≡ u) ↔ (a ≡ verdict_answer u)
 returned_verdict v u c = (λ e. sym c ∙ ap verdict_answer e, λ e. same_verdict v u (c ∙ e))
 
-returned : (r u : AnswerGiven) {a : Answer} → answer_of r ≡ a → (r ≡ u) ↔ (a ≡ answer_of u)
-returned r u c = (λ e. sym c ∙ ap answer_of e, λ e. same_answer r u (c ∙ e))
+returned : (r : Result ℕ Refusal) (n : ℕ) {a : Answer} → answer_of r ≡ a → (r ≡ Ok n) ↔ (a ≡ done n)
+returned r n c = (λ e. sym c ∙ ap answer_of e, λ e. same_value r n (c ∙ e))
+
+-- and it refuses with n and p exactly when the answer does
+refuses : (r : Result ℕ Refusal) (n p : ℕ) {a : Answer} → answer_of r ≡ a → (answer_of r ≡ refused n p) ↔ (a ≡ refused n p)
+refuses r n p c = (λ e. sym c ∙ e, λ e. c ∙ e)
 
 -- where a call that writes a page was done, the bytes written are the first ones of the page, and the others are as before
 stands : {Says : Answer → Type 0} {a : Answer} {bytes page page' : List ℕ} {n : ℕ} → Writes Says a bytes page page' → a ≡ done n → n ≡ length bytes →
@@ -131,83 +133,83 @@ module _ (s page page' : List ℕ) (v : Verdict) (bytes : Bytes s) (call : Check
   program_clear n e = taken_clear s (take (program_length n) page') bytes (name_at s (guess s)) 1 (call_keeps n e).right
 
   -- and a call of `run` with what an acceptance left, the same submission and a name, that returned r
-  module _ (n name : ℕ) (accepted : v ≡ Accepted n) (r : AnswerGiven) (ran : answer_of r ≡ run_answer s name (take (program_length n) page')) where
-    pub run_right : name ≡ name_at s (guess s) → r ≡ given.Done 1
-    run_right e = (returned r (given.Done 1) ran).1 (ap (λ k. run_answer s k (take (program_length n) page')) e ∙ (call_keeps n accepted).right)
+  module _ (n name : ℕ) (accepted : v ≡ Accepted n) (r : Result ℕ Refusal) (ran : answer_of r ≡ run_answer s name (take (program_length n) page')) where
+    pub run_right : name ≡ name_at s (guess s) → r ≡ Ok 1
+    run_right e = (returned r 1 ran).1 (ap (λ k. run_answer s k (take (program_length n) page')) e ∙ (call_keeps n accepted).right)
 
-    pub run_wrong : WrongGuess s name → r ≡ given.Done 0
-    run_wrong w = (returned r (given.Done 0) ran).1 ((call_keeps n accepted).wrong name w)
+    pub run_wrong : WrongGuess s name → r ≡ Ok 0
+    run_wrong w = (returned r 0 ran).1 ((call_keeps n accepted).wrong name w)
 
     -- another name than the guess's own is that of a wrong guess, or it is stale;
-    pub run_other : (name ≡ name_at s (guess s) → ⊥) → ((r ≡ given.Done 0) × WrongGuess s name) ⊎ ((r ≡ given.Refused 15 0) × Stale (InKnowledge s) (guessed s name))
+    pub run_other : (name ≡ name_at s (guess s) → ⊥) → ((r ≡ Ok 0) × WrongGuess s name) ⊎ ((answer_of r ≡ refused 15 0) × Stale (InKnowledge s) (guessed s name))
     run_other d = ⊎_elim
-        (λ t. let z = (says_stale_name s name).0 t in inr ((returned r (given.Refused 15 0) ran).1 ((stale_exact s _ bytes name 0).1 (refl, program_clear n accepted, z)), z.1))
+        (λ t. let z = (says_stale_name s name).0 t in inr ((refuses r 15 0 ran).1 ((stale_exact s _ bytes name 0).1 (refl, program_clear n accepted, z)), z.1))
         (λ f. let w : WrongGuess s name = record { other = d; fresh = λ t. (denies _ (says_stale_name s name)).0 f (d, t) } in inl (run_wrong w, w)) (true_or_false (is_stale_name s name))
 
     -- so every other name that run takes signals 0
-    pub run_taken : (name ≡ name_at s (guess s) → ⊥) → (m : ℕ) → r ≡ given.Done m → m ≡ 0
-    run_taken d m e = ⊎_elim (λ (f, _). let g : given.Done m ≡ given.Done 0 = sym e ∙ f in cc) (λ (f, _). let g : given.Done m ≡ given.Refused 15 0 = sym e ∙ f in cc) (run_other d)
+    pub run_taken : (name ≡ name_at s (guess s) → ⊥) → (m : ℕ) → r ≡ Ok m → m ≡ 0
+    run_taken d m e = ⊎_elim (λ (f, _). let g : Ok m ≡ Ok 0 = sym e ∙ f in cc) (λ (f, _). let g : done m ≡ refused 15 0 = sym (ap answer_of e) ∙ f in cc) (run_other d)
 
 -- ---- a call of `run` on s, a name and any program P that returned r
-module _ (s P : List ℕ) (name : ℕ) (r : AnswerGiven) (bytes : Bytes s) (call : answer_of r ≡ run_answer s name P) where
-  pub run_refuses : (n p : ℕ) → (r ≡ given.Refused n p) ↔ Refuses (run_rows s name P) n p
-  run_refuses n p = Iff.trans (returned r (given.Refused n p) call) (run_exact s P bytes name (refused n p))
+module _ (s P : List ℕ) (name : ℕ) (r : Result ℕ Refusal) (bytes : Bytes s) (call : answer_of r ≡ run_answer s name P) where
+  pub run_refuses : (n p : ℕ) → (answer_of r ≡ refused n p) ↔ Refuses (run_rows s name P) n p
+  run_refuses n p = Iff.trans (refuses r n p call) (run_exact s P bytes name (refused n p))
 
-  pub run_signals : (n : ℕ) → (r ≡ given.Done n) ↔ (Clear (run_rows s name P) × (n ≡ signal s name P))
-  run_signals n = Iff.trans (returned r (given.Done n) call) (run_exact s P bytes name (done n))
+  pub run_signals : (n : ℕ) → (r ≡ Ok n) ↔ (Clear (run_rows s name P) × (n ≡ signal s name P))
+  run_signals n = Iff.trans (returned r n call) (run_exact s P bytes name (done n))
 
   -- A3: it refuses with 15 exactly when the checks before pass and the name is stale;
-  pub run_stale : (p : ℕ) → (r ≡ given.Refused 15 p) ↔ ((p ≡ 0) × Clear (program_rows s P) × StaleName s name)
-  run_stale p = Iff.trans (returned r (given.Refused 15 p) call) (stale_exact s P bytes name p)
+  pub run_stale : (p : ℕ) → (answer_of r ≡ refused 15 p) ↔ ((p ≡ 0) × Clear (program_rows s P) × StaleName s name)
+  run_stale p = Iff.trans (refuses r 15 p call) (stale_exact s P bytes name p)
 
   -- and another name than the guess's own that it takes is that of a wrong guess
-  pub run_takes : (name ≡ name_at s (guess s) → ⊥) → (n : ℕ) → r ≡ given.Done n → WrongGuess s name
-  run_takes d n e = record { other = d; fresh = taken_fresh s P bytes name n d ((returned r (given.Done n) call).0 e) }
+  pub run_takes : (name ≡ name_at s (guess s) → ⊥) → (n : ℕ) → r ≡ Ok n → WrongGuess s name
+  run_takes d n e = record { other = d; fresh = taken_fresh s P bytes name n d ((returned r n call).0 e) }
 
 -- ---- a call of `deducible` on s and the number t that returned r
-module _ (s : List ℕ) (t : ℕ) (r : AnswerGiven) (bytes : Bytes s) (call : answer_of r ≡ deducible_answer s t) where
-  pub deducible_refuses : (n p : ℕ) → (r ≡ given.Refused n p) ↔ Refuses (deducible_rows s t) n p
-  deducible_refuses n p = Iff.trans (returned r (given.Refused n p) call) (deducible_exact s bytes t (refused n p))
+module _ (s : List ℕ) (t : ℕ) (r : Result ℕ Refusal) (bytes : Bytes s) (call : answer_of r ≡ deducible_answer s t) where
+  pub deducible_refuses : (n p : ℕ) → (answer_of r ≡ refused n p) ↔ Refuses (deducible_rows s t) n p
+  deducible_refuses n p = Iff.trans (refuses r n p call) (deducible_exact s bytes t (refused n p))
 
-  pub call_yes : (r ≡ given.Done 1) ↔ (Clear (deducible_rows s t) × Deducible (InKnowledge s) (term s t))
-  call_yes = Iff.trans (returned r (given.Done 1) call) (yes_exact s bytes t)
+  pub call_yes : (r ≡ Ok 1) ↔ (Clear (deducible_rows s t) × Deducible (InKnowledge s) (term s t))
+  call_yes = Iff.trans (returned r 1 call) (yes_exact s bytes t)
 
-  pub call_no : (r ≡ given.Done 0) ↔ (Clear (deducible_rows s t) × (Deducible (InKnowledge s) (term s t) → ⊥))
-  call_no = Iff.trans (returned r (given.Done 0) call) (no_exact s bytes t)
+  pub call_no : (r ≡ Ok 0) ↔ (Clear (deducible_rows s t) × (Deducible (InKnowledge s) (term s t) → ⊥))
+  call_no = Iff.trans (returned r 0 call) (no_exact s bytes t)
 
 -- ---- A7: a call of `deduction` on s, the number t and page that returned r and left page'
-module _ (s : List ℕ) (t : ℕ) (page page' : List ℕ) (r : AnswerGiven) (bytes : Bytes s) (call : DeductionWritten (λ a. answer_of r ≡ a) s t page page') where
-  deduced : (u : AnswerGiven) → (r ≡ u) ↔ (deduction_answer s t (length page) call.steps ≡ answer_of u)
-  deduced u = returned r u call.writes.answer
+module _ (s : List ℕ) (t : ℕ) (page page' : List ℕ) (r : Result ℕ Refusal) (bytes : Bytes s) (call : DeductionWritten (λ a. answer_of r ≡ a) s t page page') where
+  deduced : (n : ℕ) → (r ≡ Ok n) ↔ (deduction_answer s t (length page) call.steps ≡ done n)
+  deduced n = returned r n call.writes.answer
 
-  pub deduction_refuses : (n p : ℕ) → (r ≡ given.Refused n p) ↔ Refuses (deduction_rows s t (length page)) n p
-  deduction_refuses n p = Iff.trans (deduced (given.Refused n p)) (deduction_exact s bytes t (length page) call.steps (refused n p))
+  pub deduction_refuses : (n p : ℕ) → (answer_of r ≡ refused n p) ↔ Refuses (deduction_rows s t (length page)) n p
+  deduction_refuses n p = Iff.trans (refuses r n p call.writes.answer) (deduction_exact s bytes t (length page) call.steps (refused n p))
 
-  pub deduction_leaves : (n p : ℕ) → r ≡ given.Refused n p → page' ≡ page
-  deduction_leaves n p e = refused_page_kept bytes call ((deduced (given.Refused n p)).0 e)
+  pub deduction_leaves : (n p : ℕ) → answer_of r ≡ refused n p → page' ≡ page
+  deduction_leaves n p e = refused_page_kept bytes call ((refuses r n p call.writes.answer).0 e)
 
   -- no exactly where no finite list of steps reaches the term, and then the page is the page before;
-  pub deduction_no : (r ≡ given.Done 0) ↔ (Clear (deduction_rows s t (length page)) × (Deducible (InKnowledge s) (term s t) → ⊥))
-  deduction_no = Iff.trans (deduced (given.Done 0)) (shown_no s bytes t (length page) call.steps)
+  pub deduction_no : (r ≡ Ok 0) ↔ (Clear (deduction_rows s t (length page)) × (Deducible (InKnowledge s) (term s t) → ⊥))
+  deduction_no = Iff.trans (deduced 0) (shown_no s bytes t (length page) call.steps)
 
-  pub no_leaves : r ≡ given.Done 0 → page' ≡ page
-  no_leaves e = no_page bytes call ((deduced (given.Done 0)).0 e)
+  pub no_leaves : r ≡ Ok 0 → page' ≡ page
+  no_leaves e = no_page bytes call ((deduced 0).0 e)
 
   -- yes exactly where one does: the steps that are then at the page's start are such a list, as many as the answer says, and the bytes behind them
   -- are as before
-  pub deduction_yes : ((k : ℕ) × (r ≡ given.Done (suc k))) ↔ (Clear (deduction_rows s t (length page)) × Deducible (InKnowledge s) (term s t))
+  pub deduction_yes : ((k : ℕ) × (r ≡ Ok (suc k))) ↔ (Clear (deduction_rows s t (length page)) × Deducible (InKnowledge s) (term s t))
   deduction_yes =
       let (f, g) = shown_exact s bytes t (length page) call.steps in (
-        λ (k, e). let (_, c, d) = shown_yes s bytes t (length page) call.steps k ((deduced (given.Done (suc k))).0 e) in (c, d),
-        λ c. (call.steps, (deduced (given.Done (suc call.steps))).1 (g c)),
+        λ (k, e). let (_, c, d) = shown_yes s bytes t (length page) call.steps k ((deduced (suc k)).0 e) in (c, d),
+        λ c. (call.steps, (deduced (suc call.steps)).1 (g c)),
       )
 
-  module _ (k : ℕ) (yes : r ≡ given.Done (suc k)) where
+  module _ (k : ℕ) (yes : r ≡ Ok (suc k)) where
     pub deduction_shows : Deduction s t k (take (4 * k) page')
-    deduction_shows = page_shows bytes call k ((deduced (given.Done (suc k))).0 yes)
+    deduction_shows = page_shows bytes call k ((deduced (suc k)).0 yes)
 
     pub deduction_keeps : drop (4 * k) page' ≡ drop (4 * k) page
-    deduction_keeps = page_after_lem bytes call k ((deduced (given.Done (suc k))).0 yes)
+    deduction_keeps = page_after_lem bytes call k ((deduced (suc k)).0 yes)
 
     -- in the place of the submission's own derivation they pass checks 1 to 4, 6 and 7
     pub deduction_passes : k ≤ 128 → Clear (rows1to4 (with_steps s (take (4 * k) page'))) × ((m q : ℕ) → rows6and7 (with_steps s (take (4 * k) page')) m q → ⊥)
@@ -220,31 +222,31 @@ module _ (s : List ℕ) (t : ℕ) (page page' : List ℕ) (r : AnswerGiven) (byt
 -- A7: a call of `check` on s and page that refused with 8 and left page', and one of `deduction` for a premise of the verifying step with a sheet that
 -- is long enough, which returned r and left sheet': it shows the premise
 module _ (s page page' : List ℕ) (v : Verdict) (bytes : Bytes s) (call : Checked s page v page') (p : ℕ) (reachable : v ≡ Refused 8 p) (sheet sheet' : List ℕ) (long : 1000 ≤ length sheet)
-    (r : AnswerGiven) where
+    (r : Result ℕ Refusal) where
   both_shown : (m n : ℕ) → (deduction_answer s (p_at s (verifying s)) (length sheet) m ≡ done (suc m)) × (deduction_answer s (second_at s (verifying s)) (length sheet) n ≡ done (suc n))
   both_shown = shown_promise.shown s bytes (length page) p ((returned_verdict v (Refused 8 p) call.answer).0 reachable) (length sheet) long
 
-  pub first_shown : DeductionWritten (λ a. answer_of r ≡ a) s (p_at s (verifying s)) sheet sheet' → (k : ℕ) × (r ≡ given.Done (suc k))
-  first_shown w = (w.steps, (returned r (given.Done (suc w.steps)) w.writes.answer).1 (both_shown w.steps w.steps).0)
+  pub first_shown : DeductionWritten (λ a. answer_of r ≡ a) s (p_at s (verifying s)) sheet sheet' → (k : ℕ) × (r ≡ Ok (suc k))
+  first_shown w = (w.steps, (returned r (suc w.steps) w.writes.answer).1 (both_shown w.steps w.steps).0)
 
-  pub second_shown : DeductionWritten (λ a. answer_of r ≡ a) s (second_at s (verifying s)) sheet sheet' → (k : ℕ) × (r ≡ given.Done (suc k))
-  second_shown w = (w.steps, (returned r (given.Done (suc w.steps)) w.writes.answer).1 (both_shown w.steps w.steps).1)
+  pub second_shown : DeductionWritten (λ a. answer_of r ≡ a) s (second_at s (verifying s)) sheet sheet' → (k : ℕ) × (r ≡ Ok (suc k))
+  second_shown w = (w.steps, (returned r (suc w.steps) w.writes.answer).1 (both_shown w.steps w.steps).1)
 
 -- ---- a call of `write` on the bodies b and page that returned r and left page'
-module _ (b : Bodies) (page page' : List ℕ) (r : AnswerGiven) (call : FormWritten b page r page') where
-  pub write_refuses : (n p : ℕ) → (r ≡ given.Refused n p) ↔ Refuses (write_rows b (length page)) n p
-  write_refuses n p = Iff.trans (returned r (given.Refused n p) call.answer) (write_exact b (length page) (refused n p))
+module _ (b : Bodies) (page page' : List ℕ) (r : Result ℕ Refusal) (call : FormWritten b page r page') where
+  pub write_refuses : (n p : ℕ) → (answer_of r ≡ refused n p) ↔ Refuses (write_rows b (length page)) n p
+  write_refuses n p = Iff.trans (refuses r n p call.answer) (write_exact b (length page) (refused n p))
 
-  pub write_leaves : (n p : ℕ) → r ≡ given.Refused n p → page' ≡ page
-  write_leaves n p e = call.bytes ∙ refused_page (submission_of b) page ((returned r (given.Refused n p) call.answer).0 e)
+  pub write_leaves : (n p : ℕ) → answer_of r ≡ refused n p → page' ≡ page
+  write_leaves n p e = call.bytes ∙ refused_page (submission_of b) page ((refuses r n p call.answer).0 e)
 
-  pub write_accepts : (n : ℕ) → (r ≡ given.Done n) ↔ (Clear (write_rows b (length page)) × (n ≡ length (submission_of b)))
-  write_accepts n = Iff.trans (returned r (given.Done n) call.answer) (write_exact b (length page) (done n))
+  pub write_accepts : (n : ℕ) → (r ≡ Ok n) ↔ (Clear (write_rows b (length page)) × (n ≡ length (submission_of b)))
+  write_accepts n = Iff.trans (returned r n call.answer) (write_exact b (length page) (done n))
 
   -- where it is done with n, the submission is the first n bytes of the page, and the others are as before;
-  module _ (n : ℕ) (written : r ≡ given.Done n) where
+  module _ (n : ℕ) (written : r ≡ Ok n) where
     answered : write_answer b (length page) ≡ done n
-    answered = (returned r (given.Done n) call.answer).0 written
+    answered = (returned r n call.answer).0 written
 
     pub write_stands : (take n page' ≡ submission_of b) × (drop n page' ≡ drop n page)
     write_stands = stands call answered ((write_accepts n).0 written).1
@@ -263,27 +265,27 @@ module _ (b : Bodies) (page page' : List ℕ) (r : AnswerGiven) (call : FormWrit
           from_3 (take n page') (length sheet) m p write_reads.passes (refuses_some (check_rows (take n page') (length sheet)) m p ((call_refuses (take n page') sheet sheet' v bytes checked m p).0 e))
 
 -- ---- a call of `write` on the bodies of a well-formed submission, with page enough
-pub write_again : (s page page' : List ℕ) (r : AnswerGiven) → Bytes s → WellFormed s → length s ≤ length page → FormWritten (bodies_of s) page r page' → (r ≡ given.Done (length s)) × (take (length s) page' ≡ s)
+pub write_again : (s page page' : List ℕ) (r : Result ℕ Refusal) → Bytes s → WellFormed s → length s ≤ length page → FormWritten (bodies_of s) page r page' → (r ≡ Ok (length s)) × (take (length s) page' ≡ s)
 write_again s page page' r bytes w l call =
     let counted = first_two s w.read in
-    let done-is = (returned r (given.Done (length s)) call.answer).1 (form_promise.not_refused s bytes counted (length page) l) in
+    let done-is = (returned r (length s) call.answer).1 (form_promise.not_refused s bytes counted (length page) l) in
     (done-is, (write_stands (bodies_of s) page page' r call (length s) done-is).0 ∙ form_promise.written_again s bytes counted)
 
 -- ---- a call of `inverses` on s and page that returned r and left page'
-module _ (s page page' : List ℕ) (r : AnswerGiven) (bytes : Bytes s) (call : InversesWritten s page r page') where
-  pub inverses_refuses : (n p : ℕ) → (r ≡ given.Refused n p) ↔ Refuses (inverses_rows s (length page)) n p
-  inverses_refuses n p = Iff.trans (returned r (given.Refused n p) call.answer) (inverses_exact s bytes (length page) (refused n p))
+module _ (s page page' : List ℕ) (r : Result ℕ Refusal) (bytes : Bytes s) (call : InversesWritten s page r page') where
+  pub inverses_refuses : (n p : ℕ) → (answer_of r ≡ refused n p) ↔ Refuses (inverses_rows s (length page)) n p
+  inverses_refuses n p = Iff.trans (refuses r n p call.answer) (inverses_exact s bytes (length page) (refused n p))
 
-  pub inverses_leaves : (n p : ℕ) → r ≡ given.Refused n p → page' ≡ page
-  inverses_leaves n p e = call.bytes ∙ refused_page (inverses_of s) page ((returned r (given.Refused n p) call.answer).0 e)
+  pub inverses_leaves : (n p : ℕ) → answer_of r ≡ refused n p → page' ≡ page
+  inverses_leaves n p e = call.bytes ∙ refused_page (inverses_of s) page ((refuses r n p call.answer).0 e)
 
-  pub inverses_accepts : (n : ℕ) → (r ≡ given.Done n) ↔ (Clear (inverses_rows s (length page)) × (n ≡ terms s))
-  inverses_accepts n = Iff.trans (returned r (given.Done n) call.answer) (inverses_exact s bytes (length page) (done n))
+  pub inverses_accepts : (n : ℕ) → (r ≡ Ok n) ↔ (Clear (inverses_rows s (length page)) × (n ≡ terms s))
+  inverses_accepts n = Iff.trans (returned r n call.answer) (inverses_exact s bytes (length page) (done n))
 
   -- A4: where it is done with n, the first n bytes are the inverses, and the others are as before;
-  module _ (n : ℕ) (written : r ≡ given.Done n) where
+  module _ (n : ℕ) (written : r ≡ Ok n) where
     pub inverses_stands : (take n page' ≡ inverses_of s) × (drop n page' ≡ drop n page)
-    inverses_stands = stands call ((returned r (given.Done n) call.answer).0 written) (((inverses_accepts n).0 written).1 ∙ sym (inverses_promise.long s))
+    inverses_stands = stands call ((returned r n call.answer).0 written) (((inverses_accepts n).0 written).1 ∙ sym (inverses_promise.long s))
 
     -- byte k is the number of the inverse of term k, and 255 exactly where none is listed
     pub inverses_means : (k : ℕ) → k < n →
@@ -296,20 +298,20 @@ module _ (s page page' : List ℕ) (r : AnswerGiven) (bytes : Bytes s) (call : I
         rw f ((λ j m. inverses_promise.listed s bytes d k l' j (omega arith)), inverses_promise.none s bytes d k l')
 
 -- ---- a call of `read_back` on s, the program P and page that returned r and left page'
-module _ (s P page page' : List ℕ) (r : AnswerGiven) (bytes : Bytes s) (call : BodiesWritten s P page r page') where
-  pub read_back_refuses : (n p : ℕ) → (r ≡ given.Refused n p) ↔ Refuses (read_back_rows s P (length page)) n p
-  read_back_refuses n p = Iff.trans (returned r (given.Refused n p) call.answer) (read_back_exact s P bytes (length page) (refused n p))
+module _ (s P page page' : List ℕ) (r : Result ℕ Refusal) (bytes : Bytes s) (call : BodiesWritten s P page r page') where
+  pub read_back_refuses : (n p : ℕ) → (answer_of r ≡ refused n p) ↔ Refuses (read_back_rows s P (length page)) n p
+  read_back_refuses n p = Iff.trans (refuses r n p call.answer) (read_back_exact s P bytes (length page) (refused n p))
 
-  pub read_back_leaves : (n p : ℕ) → r ≡ given.Refused n p → page' ≡ page
-  read_back_leaves n p e = call.bytes ∙ refused_page (bodies_read s P) page ((returned r (given.Refused n p) call.answer).0 e)
+  pub read_back_leaves : (n p : ℕ) → answer_of r ≡ refused n p → page' ≡ page
+  read_back_leaves n p e = call.bytes ∙ refused_page (bodies_read s P) page ((refuses r n p call.answer).0 e)
 
-  pub read_back_accepts : (n : ℕ) → (r ≡ given.Done n) ↔ (Clear (read_back_rows s P (length page)) × (n ≡ bodies_length (byte P 0)))
-  read_back_accepts n = Iff.trans (returned r (given.Done n) call.answer) (read_back_exact s P bytes (length page) (done n))
+  pub read_back_accepts : (n : ℕ) → (r ≡ Ok n) ↔ (Clear (read_back_rows s P (length page)) × (n ≡ bodies_length (byte P 0)))
+  read_back_accepts n = Iff.trans (returned r n call.answer) (read_back_exact s P bytes (length page) (done n))
 
   -- A6: where it is done with n, the two bodies are the first n bytes of the page, and the others are as before;
-  module _ (n : ℕ) (written : r ≡ given.Done n) where
+  module _ (n : ℕ) (written : r ≡ Ok n) where
     answered_so : read_back_answer s P (length page) ≡ done n
-    answered_so = (returned r (given.Done n) call.answer).0 written
+    answered_so = (returned r n call.answer).0 written
 
     pub read_back_stands : (take n page' ≡ bodies_read s P) × (drop n page' ≡ drop n page)
     read_back_stands = stands call answered_so (((read_back_accepts n).0 written).1 ∙ sym (read_back_promise.long s P))
@@ -320,7 +322,7 @@ module _ (s P page page' : List ℕ) (r : AnswerGiven) (bytes : Bytes s) (call :
 
 -- ---- A6: a call of `check` on s and page that accepted with n and left page', and one of `read_back` with the program on that page and a sheet
 -- that is long enough, which returned r and left sheet'
-module _ (s page page' : List ℕ) (v : Verdict) (bytes : Bytes s) (call : Checked s page v page') (n : ℕ) (accepted : v ≡ Accepted n) (sheet sheet' : List ℕ) (r : AnswerGiven)
+module _ (s page page' : List ℕ) (v : Verdict) (bytes : Bytes s) (call : Checked s page v page') (n : ℕ) (accepted : v ≡ Accepted n) (sheet sheet' : List ℕ) (r : Result ℕ Refusal)
     (back : BodiesWritten s (take (program_length n) page') sheet r sheet') (room : bodies_length n ≤ length sheet) where
   abbrev P : List ℕ
   P = take (program_length n) page'
@@ -338,9 +340,9 @@ module _ (s page page' : List ℕ) (v : Verdict) (bytes : Bytes s) (call : Check
   own_bodies = subst (λ x. (derivation_read s x ≡ body_at s 2) × (claim_read s x ≡ body_at s 3)) (sym page_is) (read_back_promise.own s bytes (length page) n check_done)
 
   -- "its page must give back its own derivation and claim"
-  pub back_own : (r ≡ given.Done (bodies_length n)) × (take (bodies_length n) sheet' ≡ body_at s 2 ++ body_at s 3)
+  pub back_own : (r ≡ Ok (bodies_length n)) × (take (bodies_length n) sheet' ≡ body_at s 2 ++ body_at s 3)
   back_own =
-      let e = (returned r (given.Done (bodies_length n)) back.answer).1 back_done in
+      let e = (returned r (bodies_length n) back.answer).1 back_done in
       (e, (read_back_stands s P sheet sheet' r bytes back (bodies_length n) e).0 ∙ ap₂ ◌++◌ own_bodies.0 own_bodies.1)
 
   -- the two bodies, as they stand on the sheet

@@ -13,7 +13,7 @@ use Rattle.term.specs.Term.{symmetric, pair, hash, encryption, Form, Head, make,
 use Rattle.term.specs.Reduce.{op}
 use Rattle.term.specs.Step.{Step, Deducible, Undoes}
 use Rattle.term.specs.Number.{shape_of, head_of, has_one, word_of}
-use Rattle.term.proofs.Kind.{kind_shape}
+use Rattle.term.proofs.KindLaws.{kind_shape}
 use Rattle.term.proofs.Reduce.{Reduces, op_cases}
 use Rattle.term.proofs.Reach.{known, stepped, reach_opened, reach_iff}
 use Rattle.term.proofs.Deducibility.{Built, given, made, Analysed, reach_is_built}

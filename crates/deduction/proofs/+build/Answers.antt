@@ -1,29 +1,42 @@
--- `build` meets its contract: one law for each return.
+-- `build` meets its contract: a decided term, a known one, an atom, and one that has parts.
 use Rattle.std.specs.Prelude.{◌<◌}
 use native.Mathlib.Omega.{arith}
 use Rattle.std.proofs.Common.{rules}
-use Rattle.deduction.proofs.BuildMemo.{decided_before, now_known, now_atom, now_left, now_both, x_falls, y_falls}
+use Rattle.deduction.proofs.BuildMemo.{small, memo_more, now_known, now_atom, now_left, now_both, x_falls, y_falls}
 use Rattle.deduction.proofs.+build.Goals as goal
+use Rattle.deduction.proofs.+build.Goals.{then-build, else-build}
 
-pub returns-then-memo-i-ne0 : goal.returns-then-memo-i-ne0
-returns-then-memo-i-ne0 t c = search (decided_before, rules)
+pub returns-then-known-i-ne0-clause-built : goal.returns-then-known-i-ne0-clause-built
+returns-then-known-i-ne0-clause-built t c = search (now_known, rules)
 
-pub returns-then-known-i-eq1 : goal.returns-then-known-i-eq1
-returns-then-known-i-eq1 t c = search (now_known, rules)
+pub returns-then-known-i-ne0-clause-memo : goal.returns-then-known-i-ne0-clause-memo
+returns-then-known-i-ne0-clause-memo t c = search (memo_more, small, now_known, rules)
 
-pub returns-in_default : goal.returns-in_default
-returns-in_default t c = search (now_atom, rules)
+pub returns-in_default-parts_of-clause-built : goal.returns-in_default-parts_of-clause-built
+returns-in_default-parts_of-clause-built t c = search (now_atom, rules)
+
+pub returns-in_default-parts_of-clause-memo : goal.returns-in_default-parts_of-clause-memo
+returns-in_default-parts_of-clause-memo t c = search (memo_more, small, now_atom, rules)
 
 pub build-requires : goal.build-requires
 build-requires t c =
-    let f : c.in-Both.x < t = search (x_falls, rules) in (f, (search rules, (omega (arith, c.requires.t_bound, c.decreases), search rules)))
+    let f : c.in-Some-parts_of.x < t = search (x_falls, rules) in (f, (omega (arith, c.requires.t_bound, c.decreases), search rules))
 
-pub returns-then-first-eq2 : goal.returns-then-first-eq2
-returns-then-first-eq2 t c = search (now_left, rules)
+pub build-answer-requires : goal.build-answer-requires
+build-answer-requires t c =
+    let f : c.in-Some-parts_of.y < t = search (y_falls, rules) in (f, (omega (arith, c.requires.t_bound, c.decreases), search rules))
 
-pub build-requires-2 : goal.build-requires-2
-build-requires-2 t c =
-    let f : c.in-Both.y < t = search (y_falls, rules) in (f, (search rules, (omega (arith, c.requires.t_bound, c.decreases), search rules)))
+pub returns-clause-built : goal.returns-clause-built
+returns-clause-built t c =
+    elim c.if-build.branch [
+      | then-build w ↦ rw w.answer-is (search (now_both, rules))
+      | else-build w ↦ rw w.answer-is (search (now_left, rules))
+    ]
 
-pub returns : goal.returns
-returns t c = search (now_both, rules)
+pub returns-clause-memo : goal.returns-clause-memo
+returns-clause-memo t c =
+    let answer = returns-clause-built t c in
+    elim c.if-build.branch [
+      | then-build w ↦ rw w.memo-is (search (memo_more, small, answer, rules))
+      | else-build w ↦ rw w.memo-is (search (memo_more, small, answer, rules))
+    ]

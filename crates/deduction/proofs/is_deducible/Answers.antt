@@ -4,8 +4,8 @@ use Rattle.deduction.proofs.CallReturns.{said_known}
 use Rattle.std.proofs.Common.{rules}
 use Rattle.deduction.proofs.is_deducible.Goals as goal
 
-pub build-requires : goal.build-requires
-build-requires c = search (memo_none, rules)
+pub build-requires-clause-memo : goal.build-requires-clause-memo
+build-requires-clause-memo c = search (memo_none, rules)
 
 pub returns : goal.returns
 returns c = search (said_known, rules)

@@ -1,10 +1,12 @@
 -- Bodies that pass checks 14 and 2: what the checks say, and the bodies' lengths.
-use mathlib.Core.Path.{◌≡◌, refl}
+use mathlib.Core.Path.{◌≡◌, refl, ap}
 use mathlib.Core.Bool.{false, not}
+use mathlib.Core.List.{List, [], ◌∷◌}
 use Prim.Native.Nat.{ℕ, ◌+◌, ◌/◌, ◌%◌, ◌≤◌, ◌<◌}
 use native.Mathlib.Omega.{arith}
-use lib.ListN.{length, length-append}
+use lib.ListN.{length, get_or, length-append}
 use lib.Dec.{eqb}
+use Rattle.base.specs.Words.{listed, grow}
 use Rattle.base.specs.Computed.{any, passes}
 use Rattle.base.proofs.Says.{Says, says_eqb, says_not, none_fails, any_false, not_not_false, each_of_four}
 use Rattle.base.proofs.AnswerLaws.{at_passes}
@@ -70,3 +72,27 @@ starts {b} w = record {
   claim = omega (arith, w.terms, w.derivation);
   end = omega (arith, submission_length b, w.terms, w.derivation, w.claim);
 }
+
+-- the four starts, one behind the other
+pub starts_listed : {b : Bodies} → Writable b → 16 ∷ (16 + length b.terms) ∷ (16 + length b.terms + length b.knowledge) ∷ (16 + length b.terms + length b.knowledge + length b.derivation) ∷ [] ≡ listed (start_of (records b)) 4
+unfolding grow
+starts_listed w = let e = starts w in rw (e.terms, e.knowledge, e.derivation, e.claim)
+
+module _ {b : Bodies} (w : Writable b) where
+  -- the last body ends where the submission does
+  pub last_start : {l : List ℕ} → l ≡ listed (start_of (records b)) 4 → get_or l 3 0 + length b.claim ≡ length (submission_of b)
+  unfolding grow
+  last_start f = let e = starts w in let z = ap (λ m. get_or m 3 0) f in omega (arith, submission_length b, e.claim)
+
+  pub length_few : length (submission_of b) < 65536
+  length_few = omega (arith, submission_length b, w.terms_most, w.knowledge_most, w.derivation_most, w.claim)
+
+  -- what stands in an entry fits in it
+  pub starts_few : (i : ℕ) → i < 4 → start_of (records b) i < 65536
+  starts_few =
+      let e = starts w in
+      each_of_four (λ i. start_of (records b) i < 65536) (omega (arith, e.terms)) (omega (arith, e.knowledge, w.terms_most)) (omega (arith, e.derivation, w.terms_most, w.knowledge_most)) (omega (arith, e.claim, w.terms_most, w.knowledge_most, w.derivation_most))
+
+  pub records_few : (i : ℕ) → i < 4 → records b i < 256
+  records_few =
+      each_of_four (λ i. records b i < 256) (omega (arith, w.terms_most)) (omega (arith, w.knowledge_most)) (omega (arith, w.derivation_most)) (omega (arith, w.claim))

@@ -4,72 +4,47 @@ use mathlib.Core.Path.{◌≡◌, refl, sym, ap, ap₂, ◌∙◌}
 use mathlib.Core.Bool.{Bool, true, false, cond}
 use mathlib.Core.Option.{some}
 use mathlib.Core.List.{List}
-use Prim.Native.Nat.{ℕ, ◌≤◌, ◌<◌}
+use Prim.Native.Nat.{ℕ, ◌<◌}
 use native.Mathlib.Omega.{arith}
-use lib.Dec.{eqb}
-use lib.ListN.{get_or}
 use Rattle.base.specs.Words.{Bytes, byte}
-use Rattle.base.specs.declared.Stage.{Stage}
-use Rattle.submission.specs.declared.Claim.{Claim}
-use Rattle.submission.specs.declared.Reading.{Reading}
-use Rattle.submission.specs.declared.Reading.TheVariants.{Refused}
-use Rattle.submission.specs.declared.Reading.TheVariants as reading
-use Rattle.submission.specs.Code.{reading_check, ReadingIs, SubmissionRead}
-use Rattle.base.specs.Answer.{Answer as Given, done, refused, Answers, answer_of}
+use Rattle.std.specs.Prelude.{Result, Ok, Err}
+use Rattle.base.specs.declared.refusal.Refusal.{Refusal}
+use Rattle.base.specs.Answer.{Answer as Given, done, refused, number_of, Answers}
 use Rattle.base.proofs.Says.{Says, says_eqb, says_and, says_not, refutes}
 use Rattle.base.proofs.RefusalLaws.{Tells, tells_if, tells_then, answers_iff}
 use Rattle.submission.specs.Record.{guess, name_at, guessed}
 use Rattle.submission.proofs.Theory.{ReadingRows.tells_1_to_5, StaleTests.says_stale}
-use Rattle.base.specs.Computed.{passes, fails_if, and_then, answered}
+use Rattle.base.specs.Computed.{fails_if, and_then, answered}
 use Rattle.base.specs.Code.{check_of}
 use Rattle.machine.specs.declared.Node.{Node}
-use Rattle.base.specs.declared.Answer.{Answer}
-use Rattle.program.specs.declared.Asked.{Asked}
-use Rattle.program.specs.declared.Asked.TheVariants.{Asks, Nothing}
-use Rattle.term.specs.declared.Relation.{Relation as RelationGiven}
-use Rattle.term.specs.declared.Relation.TheVariants.{Equal, Inverse}
-use Rattle.term.specs.Code.{relation_is}
 use Rattle.term.specs.Term.{Relation, equal, inverses}
 use Rattle.program.specs.Program.{relation_of, Instruction, test_at}
-use Rattle.program.specs.Code.{relation_in, asked}
-use Rattle.program.proofs.Theory.Check13.{right_fits, program_iff, program_good, program_bad}
+use Rattle.program.proofs.Theory.Check13.{right_fits, program_iff}
 use Rattle.machine.specs.Run.{registers, holds, signals, signal, StaleName, program_rows, run_rows}
 use Rattle.machine.specs.declared.Machine.{Machine}
-use Rattle.machine.specs.Code.{node_of, inverse_nodes, guess_node, related}
+use Rattle.machine.specs.Code.{guess_node, related}
 use Rattle.machine.proofs.Theory.StateMeaning.{term_at, register, values, Running, Testable}
 use Rattle.machine.proofs.Theory.InstructionResult.{value_at}
 use Rattle.machine.proofs.Theory.KeyNodes.{one_term, inverse_keys}
-use Rattle.machine.proofs.Theory.RunLoop.{RunSoFar, run_all}
+use Rattle.machine.proofs.Theory.RunLoop.{RunSoFar}
 use Rattle.submission.specs.Computed.{checks1to5}
 use Rattle.program.specs.Computed.{bad_program}
 use Rattle.machine.specs.Computed.{is_stale_name, run_answer}
 
 -- ---- the test
-pub test_read : (regs : List ℕ) {p k : ℕ} → p ≡ k → get_or regs k 0 < 384 → get_or regs p 0 < 384
-test_read regs e l = rw e l
-
--- by the nodes that the code reads
-module _ (hs ls rs regs : List ℕ) {p q k j : ℕ} (e : p ≡ k) (f : q ≡ j) {l : RelationGiven} {r : ℕ} where
-  pub test_equal : l ≡ Equal → r ≡ cond (eqb (get_or regs p 0) (get_or regs q 0)) 1 0 → r ≡ cond (related (relation_is l) hs ls rs (get_or regs k 0) (get_or regs j 0)) 1 0
-  test_equal i u = rw (u, e, f, i)
-
-  pub test_inverse : {b : Bool} {x y : Node} → l ≡ Inverse → x ≡ node_of hs ls rs (get_or regs p 0) → y ≡ node_of hs ls rs (get_or regs q 0) → b ≡ inverse_nodes x y → r ≡ cond b 1 0 →
-      r ≡ cond (related (relation_is l) hs ls rs (get_or regs k 0) (get_or regs j 0)) 1 0
-  test_inverse i a c v u = rw (u, v, a, c, e, f, i)
-
 module _ {m : Machine} {t : Instruction} (w : Testable m t) where
-  left_below : register m t.left < m.nodes
+  left_below : register m t.left < m.nodes.used
   left_below = w.sound.written _ w.left
 
-  right_below : register m t.right < m.nodes
+  right_below : register m t.right < m.nodes.used
   right_below = w.sound.written _ w.right
 
-  relation_said : (ρ : Relation) → related ρ m.heads m.lefts m.rights (register m t.left) (register m t.right) ≡ holds (some ρ) (term_at m (register m t.left)) (term_at m (register m t.right))
+  relation_said : (ρ : Relation) → related ρ m.nodes.items (register m t.left) (register m t.right) ≡ holds (some ρ) (term_at m (register m t.left)) (term_at m (register m t.right))
   relation_said equal = one_term w.sound left_below right_below
   relation_said inverses = inverse_keys w.sound left_below right_below refl refl
 
   -- what the test's relation says of the two nodes is what it says of the two values
-  tested : (ρ : Relation) → relation_of t.rule ≡ some ρ → signals (values m) t ≡ related ρ m.heads m.lefts m.rights (register m t.left) (register m t.right)
+  tested : (ρ : Relation) → relation_of t.rule ≡ some ρ → signals (values m) t ≡ related ρ m.nodes.items (register m t.left) (register m t.right)
   unfolding signals
   tested ρ j = rw (j, value_at m _ w.left, value_at m _ w.right) (sym (relation_said ρ))
 
@@ -79,15 +54,9 @@ test_ready s P g h =
     let z = (program_iff s P).0 g in
     record { sound = h.holds.sound; left = rw h.used z.test_right.0; right = rw h.used (right_fits _ _ (test_at P) z.test_right); room = omega (arith, h.few, z.few) }
 
--- ---- the loop of `tried`
--- a test for this relation, and a name that is not stale
-pub record Tried (s : List ℕ) (name : ℕ) (P : List ℕ) (ρ : Relation) : Type 0 where
-  pub asks : relation_of (test_at P).rule ≡ some ρ
-  pub fresh : is_stale_name s name ≡ false
-
-module _ {s P : List ℕ} {name n i : ℕ} {m : Machine} (h : RunSoFar s name P n i m) {t : Instruction} (l : n ≤ i) (e : t ≡ test_at P) where
+module _ {s P : List ℕ} {name : ℕ} {m : Machine} (h : RunSoFar s name P (byte P 0) m) {t : Instruction} (e : t ≡ test_at P) where
   ready : Testable m t
-  ready = rw e (test_ready s P h.good (run_all h l))
+  ready = rw e (test_ready s P h.good h.running)
 
   pub tried_left : register m t.left < 384
   tried_left = omega (arith, left_below ready, ready.room)
@@ -95,47 +64,30 @@ module _ {s P : List ℕ} {name n i : ℕ} {m : Machine} (h : RunSoFar s name P 
   pub tried_right : register m t.right < 384
   tried_right = omega (arith, right_below ready, ready.room)
 
-  pub tried_done : {ρ : Relation} → Tried s name P ρ → {r : ℕ} → r ≡ cond (related ρ m.heads m.lefts m.rights (register m t.left) (register m t.right)) 1 0 →
+  pub tried_done : {ρ : Relation} → relation_of (test_at P).rule ≡ some ρ → is_stale_name s name ≡ false → {r : ℕ} → r ≡ cond (related ρ m.nodes.items (register m t.left) (register m t.right)) 1 0 →
       done r ≡ answered (fails_if (is_stale_name s name) 15 0) (done (signal s name P))
   unfolding signal
-  tried_done {ρ} v k =
-      let z : signals (registers s name P (byte P 0)) (test_at P) ≡ signals (values m) t = ap₂ signals (sym (run_all h l).holds.is) (sym e) in
-      rw (v.fresh, k, z, tested ready ρ (ap (λ t. relation_of t.rule) e ∙ v.asks))
+  tried_done {ρ} a f k =
+      let z : signals (registers s name P (byte P 0)) (test_at P) ≡ signals (values m) t = ap₂ signals (sym h.running.holds.is) (sym e) in
+      rw (f, k, z, tested ready ρ (ap (λ t. relation_of t.rule) e ∙ a))
 
--- ---- the answer
-module _ (s P : List ℕ) (name : ℕ) {rd : Reading} (e : ReadingIs s (checks1to5 s) rd) where
-  pub run_stopped : {m k : ℕ} (st : Stage) (r : Answer) → rd ≡ Refused m k → check_of st ≡ reading_check rd → answer_of r ≡ answered (check_of st) (done 0) →
-      answer_of r ≡ run_answer s name P
+-- ---- the answer: the refusal of checks 1 to 5 and 13, or what comes after them
+module _ (s P : List ℕ) (name : ℕ) {T : Type 0} {r : Result T Refusal} (e : check_of r ≡ and_then (checks1to5 s) (fails_if (bad_program s P) 13 0)) where
+  pub run_refused : (a : Given) {x : Refusal} → r ≡ Err x → a ≡ refused (number_of x.fault) x.place → a ≡ run_answer s name P
   unfolding run_answer
-  run_stopped st r p f h = h ∙ rw (f, ← e.answer, p)
+  run_refused a h q = q ∙ rw (← e, h)
 
-  module _ {k : Claim} (p : rd ≡ reading.Good k) where
-    pub reading_passes : checks1to5 s ≡ passes
-    reading_passes = sym e.answer ∙ ap reading_check p
-
-    pub read : Bytes s → SubmissionRead s
-    read b = record { bytes = b; passed = reading_passes }
-
-    module _ {o : Asked} (g : relation_in o ≡ asked s P) where
-      pub run_refused : o ≡ Nothing → refused 13 0 ≡ run_answer s name P
-      unfolding run_answer
-      run_refused t = rw (reading_passes, program_bad s P g t)
-
-      pub run_tried : {l : RelationGiven} (r : Answer) → o ≡ Asks l → answer_of r ≡ answered (fails_if (is_stale_name s name) 15 0) (done (signal s name P)) → answer_of r ≡ run_answer s name P
-      unfolding run_answer
-      run_tried r t h = h ∙ rw (reading_passes, program_good s P g t)
+  pub run_tried : {v : T} (a : Given) → r ≡ Ok v → a ≡ answered (fails_if (is_stale_name s name) 15 0) (done (signal s name P)) → a ≡ run_answer s name P
+  unfolding run_answer
+  run_tried a h q = q ∙ rw (← e, h)
 
 -- ---- check 15
 module _ (s P : List ℕ) (name : ℕ) {v : Node} (q : v ≡ guess_node s name) {b : Bool} (i : b ≡ is_stale_name s v.left) where
-  named : is_stale_name s name ≡ b
+  pub named : is_stale_name s name ≡ b
   named = sym (i ∙ ap (λ z. is_stale_name s z.left) q)
 
   pub tried_stale : b ≡ true → refused 15 0 ≡ answered (fails_if (is_stale_name s name) 15 0) (done (signal s name P))
   tried_stale j = rw (named, j)
-
-  -- before the first instruction
-  pub tried_none : {ρ : Relation} → b ≡ false → relation_of (test_at P).rule ≡ some ρ → Tried s name P ρ
-  tried_none j a = record { asks = a; fresh = named ∙ j }
 
 -- ---- Demand 1, run
 pub says_stale_name : (s : List ℕ) (name : ℕ) → Says (is_stale_name s name) (StaleName s name)

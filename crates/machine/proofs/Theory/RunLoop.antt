@@ -1,13 +1,12 @@
 -- The instructions of a program that passes check 13, one after the other: what the state holds after each.
-use mathlib.Core.Path.{◌≡◌, ap₂, ◌∙◌}
+use mathlib.Core.Path.{◌≡◌, refl, ap₂, ◌∙◌}
 use mathlib.Core.Bool.{false}
 use mathlib.Core.List.{List, [], ◌∷◌, ◌++◌}
-use Prim.Native.Nat.{ℕ, ◌+◌, ◌≤◌, ◌<◌}
+use Prim.Native.Nat.{ℕ, zero, suc, ◌+◌, ◌≤◌, ◌<◌}
 use native.Mathlib.Numerals.{add-one}
 use native.Mathlib.Omega.{arith}
 use lib.ListN.{length, length-set}
 use Rattle.base.specs.Words.{grow, byte}
-use Rattle.submission.specs.Record.{terms, entries}
 use Rattle.submission.specs.Code.{SubmissionRead}
 use Rattle.program.specs.Program.{Instruction, instruction_at}
 use Rattle.program.specs.Computed.{bad_program}
@@ -15,16 +14,14 @@ use Rattle.program.proofs.Theory.Check13.{operand_fits, program_iff}
 use Rattle.machine.specs.Run.{executed, registers}
 use Rattle.machine.specs.declared.Machine.{Machine}
 use Rattle.machine.specs.declared.Node.{Node}
-use Rattle.machine.specs.declared.Found.{Found}
-use Rattle.machine.specs.Code.{guess_node, nodes_with, Started, Placed, Executable, Executed}
-use Rattle.machine.proofs.Theory.StateMeaning.{state_of, values, Gives, Applies, HasTerms, Running}
-use Rattle.machine.proofs.Theory.StateGrowth.{put_other}
-use Rattle.machine.proofs.Theory.NodeSearch.{nodes_many}
-use Rattle.machine.proofs.Theory.StartState.{facts, start_running, start_terms}
+use Rattle.std.specs.Prelude.{Option as Maybe}
+use Rattle.machine.specs.Code.{guess_node, Started, Executable, Executed, Ran, Runnable}
+use Rattle.machine.proofs.Theory.StateMeaning.{values, Gives, Applies, HasTerms, Running}
+use Rattle.machine.proofs.Theory.StartState.{facts, start_running, start_terms, start_long, terms_stay}
 use Rattle.machine.proofs.Theory.InstructionResult.{applies_executable, executed_gives}
 
 -- ---- one instruction
-module _ {s P : List ℕ} {name i n : ℕ} {m : Machine} {x : Instruction} (w : SubmissionRead s) (g : bad_program s P ≡ false) (h : Running s name P i m) (l : i < n) (c : n ≡ byte P 0) (e : x ≡ instruction_at P i) where
+module _ {s P : List ℕ} {name i : ℕ} {m : Machine} {x : Instruction} (w : SubmissionRead s) (g : bad_program s P ≡ false) (h : Running s name P i m) (l : i < byte P 0) (e : x ≡ instruction_at P i) where
   instruction_applies : Applies m x
   instruction_applies =
       let z = (program_iff s P).0 g in
@@ -51,49 +48,55 @@ module _ {s P : List ℕ} {name i n : ℕ} {m : Machine} {x : Instruction} (w : 
     few = omega (arith, d.few, h.few);
   }
 
--- what is put after the last node is no term's node
-terms_stay : {s : List ℕ} {m r : Machine} {v : Node} {o : Found} → HasTerms s m → Placed m v o r → HasTerms s r
-terms_stay {s} {m} {r} {v} {o} h p =
-    let many = h.many in
-    rw p.is (record {
-      nodes = record { is = λ k b. put_other m.heads m.lefts m.rights m.nodes v k (λ e. omega arith) ∙ h.nodes.is k b };
-      many = omega (arith, nodes_many o m.nodes);
-    })
+-- ---- the loop of `after`: its invariant at the start and after a turn
+pub ran_none : (m : Machine) (P : List ℕ) → Ran m P 0 m
+unfolding Ran
+ran_none m P = refl
 
--- ---- the loop
--- the state m after i of the n instructions
-pub record RunSoFar (s : List ℕ) (name : ℕ) (P : List ℕ) (n i : ℕ) (m : Machine) : Type 0 where
+module _ (m : Machine) (P : List ℕ) {i n : ℕ} (q : Machine) {x : Instruction} (d : Ran m P i q) (l : i < n) (f : n ≡ byte P 0) (e : x ≡ instruction_at P i) where
+  pub ran_executable : Runnable m P → Executable q x
+  ran_executable h = rw e (h.is i (omega arith) q d)
+
+  pub ran_more : {r : Machine} → Executed q x r → Ran m P (i + 1) r
+  unfolding Ran
+  ran_more z = rw (add-one i) (q, d, rw e at z)
+
+-- ---- the run of a program that passes check 13
+-- the state m after i of the instructions
+pub record RunSoFar (s : List ℕ) (name : ℕ) (P : List ℕ) (i : ℕ) (m : Machine) : Type 0 where
   pub read : SubmissionRead s
   pub good : bad_program s P ≡ false
-  pub count : n ≡ byte P 0
-  pub within : i ≤ n
   pub running : Running s name P i m
   pub listed : HasTerms s m
   pub long : length m.registers ≡ 256
 
-pub run_none : (s : List ℕ) (name : ℕ) (P : List ℕ) {hs ls rs regs : List ℕ} {v : Node} {o : Found} {t t' u u' b n : ℕ} → SubmissionRead s → bad_program s P ≡ false → Started s v o hs ls rs regs →
-    v ≡ guess_node s name → t ≡ t' → t' ≡ terms s → u ≡ u' → u' ≡ entries s → b ≡ nodes_with o t → n ≡ byte P 0 → RunSoFar s name P n 0 (state_of hs ls rs b regs (u + 1))
-run_none s name P w g z q c c' d d' e f =
-    record { read = w; good = g; count = f; within = omega arith; running = start_running w z (c ∙ c') (d ∙ d') e P name q; listed = start_terms w z (c ∙ c') (d ∙ d') e; long = z.known.long }
+module _ {s P : List ℕ} {name i : ℕ} {m : Machine} (h : RunSoFar s name P i m) (l : i < byte P 0) {x : Instruction} (e : x ≡ instruction_at P i) where
+  applies : Applies m x
+  applies = instruction_applies h.read h.good h.running l e
 
-module _ {s P : List ℕ} {name n i : ℕ} {m : Machine} (h : RunSoFar s name P n i m) where
-  module _ {x : Instruction} (l : i < n) (e : x ≡ instruction_at P i) where
-    applies : Applies m x
-    applies = instruction_applies h.read h.good h.running l h.count e
+  run_executable : Executable m x
+  run_executable = applies_executable applies
 
-    pub run_executable : Executable m x
-    run_executable = applies_executable applies
+  run_more : {r : Machine} → Executed m x r → RunSoFar s name P (i + 1) r
+  run_more d = record {
+    read = h.read;
+    good = h.good;
+    running = running_more h.read h.good h.running l e (executed_gives applies d);
+    listed = terms_stay h.listed d.placed;
+    long = rw d.placed.is (simp length-set h.long);
+  }
 
-    pub run_more : {r : Machine} → Executed m x r → RunSoFar s name P n (i + 1) r
-    run_more d = record {
-      read = h.read;
-      good = h.good;
-      count = h.count;
-      within = omega arith;
-      running = running_more h.read h.good h.running l h.count e (executed_gives applies d);
-      listed = terms_stay h.listed d;
-      long = rw d.is (simp length-set h.long);
-    }
+module _ {s P : List ℕ} {name : ℕ} {v : Node} {o : Maybe ℕ} {m : Machine} (w : SubmissionRead s) (g : bad_program s P ≡ false) (z : Started s v o m) (q : v ≡ guess_node s name) where
+  run_none : RunSoFar s name P 0 m
+  run_none = record { read = w; good = g; running = start_running z w P name q; listed = start_terms z; long = start_long z }
 
-  pub run_all : n ≤ i → Running s name P (byte P 0) m
-  run_all l = let q : i ≡ byte P 0 = omega (arith, h.within, h.count) in rw (← q) h.running
+  run_after : (i : ℕ) → i ≤ byte P 0 → (r : Machine) → Ran m P i r → RunSoFar s name P i r
+  unfolding Ran
+  run_after zero l r e = rw e run_none
+  run_after (suc i) l r (p, d, e) = rw (← (add-one i)) (run_more (run_after i (omega arith) p d) (omega arith) refl e)
+
+  pub run_executable_each : Runnable m P
+  run_executable_each = record { is = λ i l r d. run_executable (run_after i (omega arith) r d) l refl }
+
+  pub run_all : {n : ℕ} (r : Machine) → n ≡ byte P 0 → Ran m P n r → RunSoFar s name P (byte P 0) r
+  run_all r e d = run_after (byte P 0) (omega arith) r (rw e at d)

@@ -1,36 +1,34 @@
 -- The start of a run: the submission's terms as nodes, the knowledge and the guess in the first registers.
 use mathlib.Core.Path.{◌≡◌, refl, sym, ap, ap₂, ◌∙◌, subst}
-use mathlib.Core.Bool.{Bool, true, false, ◌&&◌, cond, true≢false, false≢true}
+use mathlib.Core.Bool.{Bool, true, false, cond, true≢false, false≢true}
 use mathlib.Core.List.{List, [], ◌∷◌, ◌++◌}
 use mathlib.Core.Option.{some}
-use Prim.Native.Nat.{ℕ, ◌+◌, ◌*◌, ◌≤◌, ◌<◌}
+use Prim.Native.Nat.{ℕ, ◌+◌, ◌*◌, ◌<◌}
 use native.Mathlib.Omega.{arith}
-use mir.Syntax.{w8}
-use mir.Val.{Fits}
-use lib.ListN.{length, get_or, set, replicate, length-set, length-replicate}
-use lib.Dec.{leb}
-use lib.Seq.{get_or-set_same, get_or-set_other, set-get_or}
-use borrow.Author.Count.{below_more}
+use lib.ListN.{length, get_or, length-set}
 use Rattle.base.specs.Words.{grow, listed}
 use Rattle.base.proofs.Grow.{grow_alike}
-use Rattle.base.proofs.First.{first_equal}
-use Rattle.term.specs.Term.{Kind, plain, public, private, Shape, atomic, compound, atom_kind, atom, leaf, message, void, decoded}
-use Rattle.term.specs.{Number.shape_of, Computed.kind_of}
-use Rattle.term.specs.Code.{is_unary, builder_of, Table}
-use Rattle.term.proofs.Kind.{shape_kind}
+use Rattle.term.specs.Term.{Kind, atomic, atom_kind, atom, leaf, message, void, decoded}
+use Rattle.term.specs.{Number.shape_of}
+use Rattle.std.specs.Option.{unwrap_or}
+use Rattle.term.specs.Number.{rules}
+use Rattle.term.specs.Code.{kind_is, shape_read, is_unary, builder_of, rule_is, Table}
 use Rattle.submission.specs.declared.Term.{Term as TermRead}
-use Rattle.submission.specs.Record.{terms, entries, entry_at, guess, kind_at, name_at, record_at, term, guessed}
-use Rattle.submission.specs.declared.ClaimBytes.{ClaimBytes}
-use Rattle.submission.specs.Code.{IsTerm, IsClaimBytes, SubmissionRead}
+use Rattle.submission.specs.Record.{terms, entries, entry_at, guess, kind_at, x_at, y_at, name_at, record_of, record_at, term, guessed}
+use Rattle.submission.specs.Code.{IsTerm, SubmissionRead}
 use Rattle.submission.proofs.Theory.ListedTerms.{Claimed, claimed}
 use Rattle.machine.specs.declared.Node.{Node}
-use Rattle.machine.specs.declared.Found.{Found}
+use Rattle.std.specs.Prelude.{Option as Maybe, Some, None}
+use Rattle.std.specs.Option.{unwrap_or}
 use Rattle.machine.specs.Run.{initial, registers}
 use Rattle.machine.specs.declared.Machine.{Machine}
-use Rattle.machine.specs.Code.{atoms, atom_head, record_for, node_for, node_of, same_node, found_of, NodeArrays, Placed, number_of, nodes_with, TermNodes, EntryRegisters, Started, guess_node, number_in}
-use Rattle.machine.proofs.Theory.StateMeaning.{state_of, node_at, term_at, register, values, SoundState, HasTerms, Running}
+use Rattle.term.specs.declared.kind.Kind.{Kind as KindRead}
+use Rattle.term.specs.declared.kind.Kind.TheVariants.{Plain, Public, Private, Pair, Enc, Enca, Hash}
+use Rattle.machine.specs.declared.Head.TheVariants.{Atom, Word}
+use Rattle.machine.specs.Code.{kind_for, atom_head, record_for, node_for, node_of, Finds, Placed, Loaded, TermNodes, Started, guess_node}
+use Rattle.machine.proofs.Theory.StateMeaning.{node_at, term_at, register, values, SoundState, HasTerms, Running}
 use Rattle.machine.proofs.Theory.NodeRecords.{atom_record, term_record}
-use Rattle.machine.proofs.Theory.StateGrowth.{decoded_alike, put_other, put_same, Fit}
+use Rattle.machine.proofs.Theory.StateGrowth.{decoded_alike, nodes_stay, Fit}
 use Rattle.machine.proofs.Theory.NodeSearch.{Absent, nodes_many, placed_gives}
 use Rattle.term.specs.Computed.{is_atomic}
 
@@ -39,76 +37,76 @@ pub facts : {s : List ℕ} → SubmissionRead s → Claimed s
 facts {s} w = claimed s w.bytes w.passed
 
 -- ---- the node of a record
-kind_fits : (κ : Kind) → Fits w8 (atom_head κ)
-kind_fits plain = record { fits = omega arith }
-kind_fits public = record { fits = omega arith }
-kind_fits private = record { fits = omega arith }
+-- a term read from the submission's table is the submission's
+pub same_term : {s s' : List ℕ} {i : ℕ} {t : TermRead} → s' ≡ s → IsTerm s' i t → IsTerm s i t
+same_term e f = rw (← e) f
 
-atomic_node : (s : List ℕ) (t : ℕ) (κ : Kind) → shape_of (kind_at s t) ≡ some (atomic κ) → node_for (record_at s t) ≡ record { head = atom_head κ; left = name_at s t; right = 0 }
-unfolding record_at
-atomic_node s t κ p = rw p
+rule_or : (o : Maybe ℕ) → unwrap_or o rules ≡ rule_is o
+rule_or None = refl
+rule_or (Some n) = refl
 
--- an atom's record, or a compound one, by its kind
-module _ {s : List ℕ} {t : ℕ} {z : TermRead} (w : SubmissionRead s) (l : t < terms s) (e : IsTerm s t z) {b : Bool} (a : b ≡ is_atomic (shape_of z.kind)) where
-  has_shape : (y : Shape) × (shape_of z.kind ≡ some y) × (shape_of (kind_at s t) ≡ some y)
-  has_shape = let g = (facts w).read.good t l in (g.shape, ap shape_of e.kind ∙ g.has, g.has)
+-- the node of an atom, and that of a compound term, by the kind
+at_atom : (k : KindRead) → is_atomic (some (kind_is k)) ≡ true → (n x y : ℕ) → record { head = Atom k; left = n; right = 0 } ≡ node_for (record_of (some (kind_is k)) n x y)
+at_atom Plain e n x y = refl
+at_atom Public e n x y = refl
+at_atom Private e n x y = refl
+at_atom Pair e n x y = absurd (false≢true e)
+at_atom Enc e n x y = absurd (false≢true e)
+at_atom Enca e n x y = absurd (false≢true e)
+at_atom Hash e n x y = absurd (false≢true e)
 
-  module _ (h : b ≡ true) where
-    kind_of_lem : (κ : Kind) × (shape_of (kind_at s t) ≡ some (atomic κ)) × (z.kind ≡ kind_of (atomic κ))
-    kind_of_lem = let (y, f, g) = has_shape in go y f g
-      where
-        go : (y : Shape) → shape_of z.kind ≡ some y → shape_of (kind_at s t) ≡ some y → (κ : Kind) × (shape_of (kind_at s t) ≡ some (atomic κ)) × (z.kind ≡ kind_of (atomic κ))
-        go (atomic κ) f g = (κ, g, shape_kind _ _ f)
-        go (compound c) f g = absurd (true≢false (sym h ∙ a ∙ ap is_atomic f))
+at_word : (k : KindRead) → is_atomic (some (kind_is k)) ≡ false → (n x y : ℕ) →
+    record { head = Word (builder_of (some (kind_is k))); left = x; right = cond (is_unary (some (kind_is k))) x y } ≡ node_for (record_of (some (kind_is k)) n x y)
+at_word Plain e n x y = absurd (true≢false e)
+at_word Public e n x y = absurd (true≢false e)
+at_word Private e n x y = absurd (true≢false e)
+at_word Pair e n x y = refl
+at_word Enc e n x y = refl
+at_word Enca e n x y = refl
+at_word Hash e n x y = refl
 
-    pub atom_kind_fits : Fits w8 (atoms + z.kind)
-    atom_kind_fits = rw kind_of_lem.2 (kind_fits kind_of_lem.0)
+-- what is of no kind stands for a plain atom
+record_or : (o : Maybe KindRead) (n x y : ℕ) → record_of (shape_read o) n x y ≡ record_of (some (kind_is (unwrap_or o Plain))) n x y
+record_or None n x y = refl
+record_or (Some k) n x y = refl
 
-    pub node_atomic : {n : ℕ} → n ≡ z.x * 256 + z.y → record { head = atoms + z.kind; left = n; right = 0 } ≡ node_for (record_at s t)
-    node_atomic f =
-        let (κ, p, q) = kind_of_lem in
-        let r = atomic_node s t κ p in
-        cc (e.x, e.y)
+unary_or : (o : Maybe KindRead) → is_unary (shape_read o) ≡ is_unary (some (kind_is (unwrap_or o Plain)))
+unary_or None = refl
+unary_or (Some k) = refl
 
-  pub node_compound : {x v y h : ℕ} → b ≡ false → x ≡ z.x → v ≡ cond (is_unary (shape_of z.kind)) z.x z.y → h ≡ builder_of (shape_of z.kind) → y ≡ v →
-      record { head = h; left = x; right = y } ≡ node_for (record_at s t)
+atom_for : (k : KindRead) → is_atomic (some (kind_is k)) ≡ true → k ≡ kind_for (atom_kind (some (kind_is k)))
+atom_for Plain e = refl
+atom_for Public e = refl
+atom_for Private e = refl
+atom_for Pair e = absurd (false≢true e)
+atom_for Enc e = absurd (false≢true e)
+atom_for Enca e = absurd (false≢true e)
+atom_for Hash e = absurd (false≢true e)
+
+atom_or : (o : Maybe KindRead) (κ : Kind) → shape_read o ≡ some (atomic κ) → unwrap_or o Plain ≡ kind_for κ
+atom_or None κ e = absurd (let z : ◌≡◌ {A = ℕ} 0 1 = cc in omega arith)
+atom_or (Some k) κ e = atom_for k (ap is_atomic e) ∙ ap (λ o. kind_for (atom_kind o)) e
+
+module _ {s : List ℕ} {t : ℕ} {z : TermRead} (e : IsTerm s t z) (o : Maybe KindRead) (a : shape_read o ≡ shape_of z.kind) {k : KindRead} (c : k ≡ unwrap_or o Plain) where
+  read_is : record_at s t ≡ record_of (some (kind_is k)) (z.x * 256 + z.y) z.x z.y
   unfolding record_at
-  node_compound {x} {v} {y} {h} n f g k i = let (c, p, q) = has_shape in go c p q
-    where
-      go : (c : Shape) → shape_of z.kind ≡ some c → shape_of (kind_at s t) ≡ some c → record { head = h; left = x; right = y } ≡ node_for (record_at s t)
-      go (atomic κ) p q = absurd (false≢true (sym n ∙ a ∙ ap is_atomic p))
-      go (compound c) p q = rw (q, k, i, g, p, f, e.x, e.y)
+  read_is = rw (e.x, e.y, c, ← (record_or o (name_at s t) (x_at s t) (y_at s t)), a, e.kind)
+
+  module _ {b : Bool} (d : b ≡ is_atomic (some (kind_is k))) where
+    pub node_atomic : b ≡ true → {v : Node} {n : ℕ} → n ≡ z.x * 256 + z.y → v ≡ record { head = Atom k; left = n; right = 0 } → v ≡ node_for (record_at s t)
+    node_atomic h f g = g ∙ rw (read_is, f) (at_atom k (sym d ∙ h) _ _ _)
+
+    pub node_compound : b ≡ false → {x v y h : ℕ} (q : Maybe ℕ) → x ≡ z.x → v ≡ cond (is_unary (shape_of z.kind)) z.x z.y → rule_is q ≡ builder_of (some (kind_is k)) → h ≡ unwrap_or q rules → y ≡ v →
+        record { head = Word h; left = x; right = y } ≡ node_for (record_at s t)
+    node_compound n q f g j m i =
+        let second : is_unary (shape_of z.kind) ≡ is_unary (some (kind_is k)) = ap is_unary (sym a) ∙ unary_or o ∙ ap (λ k. is_unary (some (kind_is k))) (sym c) in
+        rw (read_is, i, g, f, second, m, rule_or q, j) (at_word k (sym d ∙ n) _ _ _)
 
 -- ---- the terms
-pub arrays_new : NodeArrays (replicate 384 0) (replicate 384 0) (replicate 384 0)
-arrays_new = record { heads = length-replicate {A = ℕ} 384 0; lefts = length-replicate {A = ℕ} 384 0; rights = length-replicate {A = ℕ} 384 0 }
-
-pub registers_new : length {A = ℕ} (replicate 256 0) ≡ 256
-registers_new = length-replicate {A = ℕ} 256 0
-
--- the arrays hold the first t terms
-pub record Filled (s hs ls rs : List ℕ) (t : ℕ) : Type 0 where
-  pub arrays : NodeArrays hs ls rs
-  pub nodes : (k : ℕ) → k < t → node_of hs ls rs k ≡ node_for (record_at s k)
-
-pub filled_none : (s : List ℕ) {hs ls rs : List ℕ} → NodeArrays hs ls rs → Filled s hs ls rs 0
-filled_none s a = record { arrays = a; nodes = λ k b. absurd (omega arith) }
-
-module _ {s hs ls rs : List ℕ} {t n : ℕ} (f : Filled s hs ls rs t) (c : n ≡ terms s) where
-  pub filled_more : SubmissionRead s → {k : ℕ} {v : Node} → t < n → k ≡ t → v ≡ node_for (record_at s t) →
-      Filled s (set hs k v.head) (set ls k v.left) (set rs k v.right) (t + 1)
-  filled_more w {v = v} b e g =
-      let most = (facts w).read.terms_most in
-      let a = f.arrays in
-      rw e (record {
-        arrays = record { heads = simp length-set a.heads; lefts = simp length-set a.lefts; rights = simp length-set a.rights };
-        nodes = below_more (λ k. node_of (set hs t v.head) (set ls t v.left) (set rs t v.right) k ≡ node_for (record_at s k)) t
-            (λ k l. put_other hs ls rs t v k (λ e. omega arith) ∙ f.nodes k l)
-            (put_same hs ls rs t v (omega (arith, a.heads, most)) (omega (arith, a.lefts, most)) (omega (arith, a.rights, most)) ∙ g);
-      })
-
-  pub filled_all : n ≤ t → TermNodes s hs ls rs
-  filled_all b = record { is = λ k l. f.nodes k (omega arith) }
+-- the first t nodes are the first t terms'
+pub record Filled (s : List ℕ) (ns : List Node) (t : ℕ) : Type 0 where
+  pub long : length ns ≡ 384
+  pub nodes : (k : ℕ) → k < t → node_of ns k ≡ node_for (record_at s k)
 
 -- ---- the knowledge
 -- the registers hold the first i entries
@@ -116,137 +114,100 @@ pub record EntriesPut (s regs : List ℕ) (i : ℕ) : Type 0 where
   pub long : length regs ≡ 256
   pub is : (k : ℕ) → k < i → get_or regs k 0 ≡ entry_at s k
 
-pub entries_none : (s : List ℕ) {regs : List ℕ} → length regs ≡ 256 → EntriesPut s regs 0
-entries_none s e = record { long = e; is = λ k b. absurd (omega arith) }
-
-module _ {s regs : List ℕ} {i n : ℕ} (f : EntriesPut s regs i) (c : n ≡ entries s) where
-  pub entries_more : SubmissionRead s → {k a x : ℕ} → i < n → k ≡ i → a ≡ entry_at s i → x ≡ a → EntriesPut s (set regs k x) (i + 1)
-  entries_more w {x = x} b e g h = rw e (record {
-    long = simp length-set f.long;
-    is = below_more (λ k. get_or (set regs i x) k 0 ≡ entry_at s k) i (λ k l. get_or-set_other regs i k x 0 (λ e. omega arith) ∙ f.is k l)
-        (get_or-set_same regs i x 0 (omega (arith, f.long, (facts w).read.entries_most)) ∙ h ∙ g);
-  })
-
-  pub entries_all : n ≤ i → EntryRegisters s regs
-  entries_all b = record { long = f.long; is = λ k l. f.is k (omega arith) }
-
 -- ---- the guess
-module _ {s : List ℕ} {g : ℕ} {z : TermRead} (w : SubmissionRead s) (e : IsTerm s g z) (f : g ≡ guess s) where
-  guess_is : z.kind ≡ kind_at s (guess s)
-  guess_is = e.kind ∙ ap (kind_at s) f
-
-  pub guess_fits_lem : Fits w8 (atoms + z.kind)
-  guess_fits_lem = rw (guess_is ∙ shape_kind _ _ (facts w).guess_shape) (kind_fits (facts w).guess_kind)
-
-  pub guess_node_lem : (name : ℕ) → record { head = atoms + z.kind; left = name; right = 0 } ≡ guess_node s name
-  guess_node_lem name = rw guess_is
-
-pub guess_name : {s : List ℕ} {b : ClaimBytes} {z : TermRead} {m : ℕ} → IsClaimBytes s b → IsTerm s b.guess z → m ≡ z.x * 256 + z.y → m ≡ name_at s (guess s)
-guess_name o e f = f ∙ rw (e.x, e.y, o.guessed)
+pub guess_node_lem : {s : List ℕ} {g : ℕ} {z : TermRead} → SubmissionRead s → IsTerm s g z → g ≡ guess s → (o : Maybe KindRead) → shape_read o ≡ shape_of z.kind → {k : KindRead} → k ≡ unwrap_or o Plain →
+    {v : Node} (name : ℕ) → v ≡ record { head = Atom k; left = name; right = 0 } → v ≡ guess_node s name
+guess_node_lem {s} w e f o a {k} c {v} name i =
+    let shape = (facts w).guess_shape in
+    let q : k ≡ kind_for (facts w).guess_kind = c ∙ atom_or o _ (a ∙ ap shape_of (e.kind ∙ ap (kind_at s) f) ∙ shape) in
+    i ∙ rw (q, shape)
 
 -- the node of the atom of a kind with a name, and that of the guess
 abbrev pub atom_node : Kind → ℕ → Node
 atom_node κ name = record { head = atom_head κ; left = name; right = 0 }
 
 pub guess_atom : {s : List ℕ} (w : SubmissionRead s) (name : ℕ) → guess_node s name ≡ atom_node (facts w).guess_kind name
-guess_atom {s} w name = ap (λ k. record { head = atoms + k; left = name; right = 0 }) (shape_kind (kind_at s (guess s)) _ (facts w).guess_shape)
+guess_atom {s} w name = rw (facts w).guess_shape
 
--- ---- the state that holds these
-module _ {s hs ls rs regs : List ℕ} (w : SubmissionRead s) (f : TermNodes s hs ls rs) (g : EntryRegisters s regs) where
-  abbrev loaded : Machine
-  loaded = state_of hs ls rs (terms s) regs (entries s)
+-- ---- the state m that holds these
+module _ {s : List ℕ} {m : Machine} (w : SubmissionRead s) (h : Loaded s m) where
+  same_terms : decoded (node_at m) m.nodes.used ≡ decoded (record_at s) (terms s)
+  same_terms = rw h.many (decoded_alike (node_at m) (record_at s) (terms s) (term_record h.nodes))
 
-  same_terms : decoded (node_at loaded) (terms s) ≡ decoded (record_at s) (terms s)
-  same_terms = decoded_alike (node_at loaded) (record_at s) (terms s) (term_record f)
-
-  terms_held : (k : ℕ) → term_at loaded k ≡ term s k
+  terms_held : (k : ℕ) → term_at m k ≡ term s k
   unfolding term_at term
   terms_held k = ap (λ ts. get_or ts k void) same_terms
 
-  loaded_sound : SoundState loaded
+  loaded_sound : SoundState m
   unfolding term_at term
   loaded_sound = record {
-    table = subst (λ ts. Table (node_at loaded) (terms s) (λ k. get_or ts k void)) (sym same_terms) (record {
-      reads = λ k b. (facts w).read.table.reads k b ∙ ap (message (term s)) (sym (term_record f k b));
-      earlier = λ k b. rw (term_record f k b) ((facts w).read.table.earlier k b);
-      distinct = λ j k b c e. (facts w).read.table.distinct j k b c (sym (term_record f j b) ∙ e ∙ term_record f k c);
-    });
-    canonical = λ k b. ap node_for (term_record f k b) ∙ sym (f.is k b);
-    written = λ r b. rw (g.is r b) ((facts w).read.entry_below r b);
+    table = subst (λ n. Table (node_at m) n (term_at m)) (sym h.many) (subst (λ ts. Table (node_at m) (terms s) (λ k. get_or ts k void)) (sym same_terms) (record {
+      reads = λ k b. (facts w).read.table.reads k b ∙ ap (message (term s)) (sym (term_record h.nodes k b));
+      earlier = λ k b. rw (term_record h.nodes k b) ((facts w).read.table.earlier k b);
+      distinct = λ j k b c e. (facts w).read.table.distinct j k b c (sym (term_record h.nodes j b) ∙ e ∙ term_record h.nodes k c);
+    }));
+    canonical = λ k b. let l : k < terms s = omega (arith, h.many) in ap node_for (term_record h.nodes k l) ∙ sym (h.nodes.is k l);
+    written = λ r b. let l : r < entries s = omega (arith, h.used) in rw (h.known.is r l, h.many) ((facts w).read.entry_below r l);
   }
 
-  loaded_values : values loaded ≡ listed (λ i. term s (entry_at s i)) (entries s)
+  loaded_values : values m ≡ listed (λ i. term s (entry_at s i)) (entries s)
   unfolding values
-  loaded_values = grow_alike [] _ _ (entries s) (λ r l b. terms_held (register loaded r) ∙ ap (term s) (g.is r b))
+  loaded_values = ap (listed (λ r. term_at m (register m r))) h.used ∙ grow_alike [] _ _ (entries s) (λ r l b. terms_held (register m r) ∙ ap (term s) (h.known.is r b))
 
   -- the guess's node is put after the terms, and its number into the next register
   module _ {v : Node} (name : ℕ) (q : v ≡ guess_node s name) where
     guess_record : record_for v ≡ leaf (facts w).guess_kind name
     guess_record = rw (q, guess_atom w name) (atom_record (facts w).guess_kind name 0)
 
-    guess_fit : Fit loaded v
+    guess_fit : Fit m v
     guess_fit = record { sound = loaded_sound; canonical = rw guess_record (sym (q ∙ guess_atom w name)); low = rw guess_record tt }
 
-    guess_absent : Absent loaded v 0
+    guess_absent : Absent m v 0
     guess_absent = record { none = λ k b. absurd (omega arith) }
 
-    guess_started : (P : List ℕ) {n u : ℕ} {o : Found} {r : Machine} → n ≡ terms s → u ≡ entries s → o ≡ number_in hs ls rs n v → Placed (state_of hs ls rs n regs u) v o r → Running s name P 0 r
+    guess_started : (P : List ℕ) (o : Maybe ℕ) {r : Machine} → Finds m.nodes.items v 0 (terms s) o → Placed m v o r → Running s name P 0 r
     unfolding initial guessed registers grow
-    guess_started P a b e p =
-        let d = placed_gives 0 guess_fit guess_absent (rw a at e) (rw (a, b) at p) in
+    guess_started P o e p =
+        let d = placed_gives 0 guess_fit guess_absent o (rw h.many e) p in
         record {
           holds = record {
             sound = d.holds.sound;
-            is = d.holds.is ∙ ap₂ (λ vs t. vs ++ t ∷ []) loaded_values (ap (message (term_at loaded)) guess_record ∙ ap (λ o. atom (atom_kind o) name) (sym (facts w).guess_shape));
+            is = d.holds.is ∙ ap₂ (λ vs t. vs ++ t ∷ []) loaded_values (ap (message (term_at m)) guess_record ∙ ap (λ o. atom (atom_kind o) name) (sym (facts w).guess_shape));
           };
-          used = omega (arith, d.used);
-          few = omega (arith, d.few, (facts w).read.terms_most);
+          used = omega (arith, d.used, h.used);
+          few = omega (arith, d.few, h.many, (facts w).read.terms_most);
         }
 
--- a search does not see what is put after the nodes that it looks at
-search_behind : (hs ls rs : List ℕ) (n : ℕ) (v : Node) → number_in hs ls rs n v ≡ number_in (set hs n v.head) (set ls n v.left) (set rs n v.right) n v
-search_behind hs ls rs n v = ap found_of (first_equal _ _ n (λ k b. ap (λ z. leb 0 k && same_node z v) (sym (put_other hs ls rs n v k (λ e. omega arith)))))
-
--- as the code writes it
-module _ {s hs ls rs regs : List ℕ} (w : SubmissionRead s) (f : TermNodes s hs ls rs) (arrays : NodeArrays hs ls rs) (g : EntryRegisters s regs) {v : Node} {n t u : ℕ} (b : n ≡ t) (c : t ≡ terms s) (d : u ≡ entries s) where
-  pub start_put : {k i a : ℕ} {o : Found} → o ≡ number_in hs ls rs n v → k ≡ n → i ≡ u → a ≡ number_of o n → Started s v o (set hs k v.head) (set ls k v.left) (set rs k v.right) (set regs i a)
-  start_put {o = o} e x y z =
-      let room : terms s < 384 = omega (arith, (facts w).read.terms_most) in
-      let space : entries s < 256 = omega (arith, (facts w).read.entries_most) in
-      rw (x, y, z, b, c, d) (record {
-        arrays = record { heads = simp length-set arrays.heads; lefts = simp length-set arrays.lefts; rights = simp length-set arrays.rights };
-        nodes = record { is = λ k b. put_other hs ls rs (terms s) v k (λ e. omega arith) ∙ f.is k b };
-        last = put_same hs ls rs (terms s) v (rw arrays.heads room) (rw arrays.lefts room) (rw arrays.rights room);
-        known = record { long = simp length-set g.long; is = λ i b. get_or-set_other regs (entries s) i (number_of o (terms s)) 0 (λ e. omega arith) ∙ g.is i b };
-        number = get_or-set_same regs (entries s) (number_of o (terms s)) 0 (rw g.long space);
-        is = (rw (b, c) at e) ∙ search_behind hs ls rs (terms s) v;
-      })
-
-pub start_found : {s hs ls rs regs : List ℕ} {v : Node} {o : Found} {n t : ℕ} → Started s v o hs ls rs regs → n ≡ t → t ≡ terms s → o ≡ number_in hs ls rs n v
-start_found z b c = rw (b, c) z.is
-
--- what is there already
-put_there : (l : List ℕ) (k : ℕ) {x : ℕ} → get_or l k 0 ≡ x → l ≡ set l k x
-put_there l k e = sym (ap (set l k) (sym e) ∙ set-get_or l k 0)
-
-same_state : {hs hs' ls ls' rs rs' regs regs' : List ℕ} {n n' u u' : ℕ} → hs ≡ hs' → ls ≡ ls' → rs ≡ rs' → n ≡ n' → regs ≡ regs' → u ≡ u' → state_of hs ls rs n regs u ≡ state_of hs' ls' rs' n' regs' u'
-same_state a b c d e f = rw (a, b, c, d, e, f)
+-- the first nodes of a state stay the terms'
+pub terms_stay : {s : List ℕ} {m r : Machine} {v : Node} {o : Maybe ℕ} → HasTerms s m → Placed m v o r → HasTerms s r
+terms_stay {s} {m} {r} {v} {o} h p =
+    let many = h.many in
+    rw p.is (record {
+      nodes = record { is = λ k b. nodes_stay m.nodes v o k (omega arith) ∙ h.nodes.is k b };
+      many = omega (arith, nodes_many m.nodes v o);
+    })
 
 -- a run starts so
-module _ {s hs ls rs regs : List ℕ} {v : Node} {o : Found} {n u b : ℕ} (w : SubmissionRead s) (z : Started s v o hs ls rs regs) (c : n ≡ terms s) (d : u ≡ entries s) (t : b ≡ nodes_with o n) where
-  pub start_running : (P : List ℕ) (name : ℕ) → v ≡ guess_node s name → Running s name P 0 (state_of hs ls rs b regs (u + 1))
-  start_running P name q =
-      let room : terms s < 384 = omega (arith, (facts w).read.terms_most) in
-      let space : entries s < 256 = omega (arith, (facts w).read.entries_most) in
-      guess_started w z.nodes z.known name q P refl refl z.is (record {
-        room = record { heads = rw z.arrays.heads room; lefts = rw z.arrays.lefts room; rights = rw z.arrays.rights room };
-        space = rw z.known.long space;
-        is = same_state (put_there hs (terms s) (ap (λ x. x.head) z.last)) (put_there ls (terms s) (ap (λ x. x.left) z.last)) (put_there rs (terms s) (ap (λ x. x.right) z.last))
-            (t ∙ ap (nodes_with o) c) (put_there regs (entries s) z.number) (ap (λ x. x + 1) d);
-      })
+module _ {s : List ℕ} {v : Node} {o : Maybe ℕ} {r : Machine} (z : Started s v o r) where
+  pub start_running : SubmissionRead s → (P : List ℕ) (name : ℕ) → v ≡ guess_node s name → Running s name P 0 r
+  start_running w P name q = guess_started w z.loaded name q P o z.is z.placed
 
-  pub start_terms : HasTerms s (state_of hs ls rs b regs (u + 1))
-  start_terms = record { nodes = z.nodes; many = rw (t, c) (nodes_many o (terms s)) }
+  pub start_terms : HasTerms s r
+  start_terms = terms_stay (record { nodes = z.loaded.nodes; many = omega (arith, z.loaded.many) }) z.placed
+
+  pub start_long : length r.registers ≡ 256
+  start_long = rw z.placed.is (simp length-set z.loaded.registers)
+
+  pub start_nodes : TermNodes s r.nodes.items
+  start_nodes = start_terms.nodes
+
+  -- a search does not see what is put after the nodes that it looks at
+  pub start_found : Finds r.nodes.items v 0 (terms s) o
+  start_found = rw z.placed.is (go _ _ o z.is (λ k l. nodes_stay z.before.nodes v o k (omega (arith, z.loaded.many))))
+    where
+      go : (ns ms : List Node) (o : Maybe ℕ) → Finds ns v 0 (terms s) o → ((k : ℕ) → k < terms s → node_of ms k ≡ node_of ns k) → Finds ms v 0 (terms s) o
+      go ns ms (Some i) (l, f) e = (l, e i l ∙ f)
+      go ns ms None f e = λ k a l q. f k a l (sym (e k l) ∙ q)
 
 -- the guess's node has the name
 pub guess_left : (s : List ℕ) {v : Node} (name : ℕ) → v ≡ guess_node s name → v ≡ guess_node s v.left

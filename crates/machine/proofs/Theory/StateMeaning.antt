@@ -2,6 +2,7 @@
 use mathlib.Core.{Path.◌≡◌, List.List, List.[], List.◌∷◌, List.◌++◌}
 use Prim.Native.Nat.{ℕ, ◌+◌, ◌≤◌, ◌<◌}
 use lib.ListN.{get_or, set}
+use Rattle.std.specs.Prelude.{None}
 use Rattle.base.specs.Words.{listed}
 use Rattle.term.specs.{Term.Term, Term.Rec, Term.decoded, Term.void, Code.Table, Number.rules}
 use Rattle.submission.specs.Record.{terms, entries}
@@ -10,23 +11,20 @@ use Rattle.machine.specs.declared.Node.{Node}
 use Rattle.machine.specs.declared.Operands.{Operands}
 use Rattle.machine.specs.Run.{registers}
 use Rattle.machine.specs.declared.Machine.{Machine}
-use Rattle.machine.specs.Code.{record_for, node_for, node_of, operands_of, TermNodes}
-
-abbrev pub state_of : List ℕ → List ℕ → List ℕ → ℕ → List ℕ → ℕ → Machine
-state_of heads lefts rights nodes registers used = record { heads = heads; lefts = lefts; rights = rights; nodes = nodes; registers = registers; used = used }
+use Rattle.machine.specs.Code.{record_for, node_for, node_of, operands_of, with_node, TermNodes}
 
 abbrev pub operands_in : Machine → ℕ → ℕ → Operands
-operands_in m a b = operands_of m.heads m.lefts m.rights a b
+operands_in m a b = operands_of m.nodes.items a b
 
 abbrev pub node_in : Machine → ℕ → Node
-node_in m k = node_of m.heads m.lefts m.rights k
+node_in m k = node_of m.nodes.items k
 
 abbrev pub node_at : Machine → ℕ → Rec
 node_at m k = record_for (node_in m k)
 
 -- the term of node k
 unfoldable pub term_at : Machine → ℕ → Term
-term_at m k = get_or (decoded (node_at m) m.nodes) k void
+term_at m k = get_or (decoded (node_at m) m.nodes.used) k void
 
 abbrev pub register : Machine → ℕ → ℕ
 register m r = get_or m.registers r 0
@@ -36,26 +34,26 @@ unfoldable pub values : Machine → List Term
 values m = listed (λ r. term_at m (register m r)) m.used
 
 pub record SoundState (m : Machine) : Type 0 where
-  pub table : Table (node_at m) m.nodes (term_at m)
-  pub canonical : (k : ℕ) → k < m.nodes → node_for (node_at m k) ≡ node_in m k
-  pub written : (r : ℕ) → r < m.used → register m r < m.nodes
+  pub table : Table (node_at m) m.nodes.used (term_at m)
+  pub canonical : (k : ℕ) → k < m.nodes.used → node_for (node_at m k) ≡ node_in m k
+  pub written : (r : ℕ) → r < m.used → register m r < m.nodes.used
 
 pub record Holds (m : Machine) (vs : List Term) : Type 0 where
   pub sound : SoundState m
   pub is : values m ≡ vs
 
 -- the state m with one node or one register more
-abbrev pub with_node : Machine → Node → Machine
-with_node m v = record { heads = set m.heads m.nodes v.head; lefts = set m.lefts m.nodes v.left; rights = set m.rights m.nodes v.right; nodes = m.nodes + 1; registers = m.registers; used = m.used }
+abbrev pub with_new : Machine → Node → Machine
+with_new m v = record { nodes = with_node m.nodes v None; registers = m.registers; used = m.used }
 
 abbrev pub with_register : Machine → ℕ → Machine
-with_register m n = record { heads = m.heads; lefts = m.lefts; rights = m.rights; nodes = m.nodes; registers = set m.registers m.used n; used = m.used + 1 }
+with_register m n = record { nodes = m.nodes; registers = set m.registers m.used n; used = m.used + 1 }
 
 -- r is the state m with the term t in the next register
 pub record Gives (m : Machine) (t : Term) (r : Machine) : Type 0 where
   pub holds : Holds r (values m ++ t ∷ [])
   pub used : r.used ≡ m.used + 1
-  pub few : r.nodes ≤ m.nodes + 1
+  pub few : r.nodes.used ≤ m.nodes.used + 1
 
 -- an instruction over registers of the state m
 pub record Applies (m : Machine) (i : Instruction) : Type 0 where
@@ -63,23 +61,23 @@ pub record Applies (m : Machine) (i : Instruction) : Type 0 where
   pub rule : i.rule < rules
   pub left : i.left < m.used
   pub right : operand i < m.used
-  pub room : m.nodes < 384
+  pub room : m.nodes.used < 384
   pub space : m.used < 256
 
 -- the first nodes of the state m are the terms'
 pub record HasTerms (s : List ℕ) (m : Machine) : Type 0 where
-  pub nodes : TermNodes s m.heads m.lefts m.rights
-  pub many : terms s ≤ m.nodes
+  pub nodes : TermNodes s m.nodes.items
+  pub many : terms s ≤ m.nodes.used
 
 -- the state m holds the registers' values after n instructions
 pub record Running (s : List ℕ) (name : ℕ) (P : List ℕ) (n : ℕ) (m : Machine) : Type 0 where
   pub holds : Holds m (registers s name P n)
   pub used : m.used ≡ entries s + 1 + n
-  pub few : m.nodes ≤ 251 + n
+  pub few : m.nodes.used ≤ 251 + n
 
 -- a test that the state m can make
 pub record Testable (m : Machine) (t : Instruction) : Type 0 where
   pub sound : SoundState m
   pub left : t.left < m.used
   pub right : t.right < m.used
-  pub room : m.nodes ≤ 384
+  pub room : m.nodes.used ≤ 384

@@ -1,10 +1,6 @@
 -- `guess_node` meets its contract.
-use Rattle.machine.proofs.Theory.StartState.{guess_fits_lem, guess_node_lem}
-use Rattle.std.proofs.Common.{rules}
+use Rattle.machine.proofs.Theory.StartState.{same_term, guess_node_lem}
 use Rattle.machine.proofs.guess_node.Goals as goal
 
-pub overflow_add-result : goal.overflow_add-result
-overflow_add-result c = search guess_fits_lem
-
 pub returns : goal.returns
-returns c = search (guess_node_lem, rules)
+returns c = guess_node_lem c.args.submission.read (same_term c.table.ensures c.term-guess.ensures) c.args.submission.claimed.guessed _ c.kind.ensures c.unwrap_or.ensures c.args.name c.atom.ensures

@@ -1,23 +1,11 @@
--- `register_numbers` meets its contract: the first i instructions are executed.
-use Rattle.machine.proofs.Theory.StartState.{arrays_new, registers_new}
-use Rattle.machine.proofs.Theory.RunLoop.{run_executable, run_more}
-use Rattle.machine.proofs.Theory.ListedRegisters.{right_none, registers_listed}
-use Rattle.std.proofs.Common.{rules}
+-- `register_numbers` meets its contract: the state after the run with the right guess.
+use mathlib.Core.Path.{refl}
+use Rattle.machine.proofs.Theory.RunLoop.{run_executable_each}
+use Rattle.machine.proofs.Theory.ListedRegisters.{right_registers}
 use Rattle.machine.proofs.register_numbers.Goals as goal
 
-pub put_start-found-requires : goal.put_start-found-requires
-put_start-found-requires c = record { submission_read = search rules; node_arrays = arrays_new; registers_len = registers_new }
-
-pub loop-i-init : goal.loop-i-init
-loop-i-init c =
-    let pre = c.requires in
-    right_none _ _ pre.submission_read pre.program_value c.right_name-right.ensures c.guess_node-g.ensures c.put_start-found.ensures c.wide16-terms.ensures c.terms.ensures c.wide16-entries.ensures c.entries.ensures c.nodes_with.ensures c.byte-n.ensures
-
-pub step-m-requires : goal.step-m-requires
-step-m-requires c = search run_executable
-
-pub loop-i-preserved : goal.loop-i-preserved
-loop-i-preserved c = run_more c.loop-i.invariant c.loop-i-test.true c.instruction_at.ensures c.step-m.ensures
+pub after-requires : goal.after-requires
+after-requires c = run_executable_each c.args.checked.submission.read c.args.checked.good c.start.ensures c.guess_node-guess.ensures
 
 pub returns : goal.returns
-returns c = search registers_listed
+returns c = right_registers _ c.args.checked.submission.read c.args.checked.good c.right_name.ensures c.guess_node-guess.ensures c.start.ensures c.after.ensures refl

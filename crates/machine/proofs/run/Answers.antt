@@ -1,18 +1,10 @@
 -- `run` answers what checks 1 to 5, 13 and 15 and the machine give.
-use Rattle.base.proofs.StageLaws.{bytes}
-use Rattle.machine.proofs.Theory.RunAnswer.{read, run_stopped, run_refused, run_tried}
-use Rattle.program.proofs.Theory.Check13.{program_good, program_asks}
 use Rattle.std.proofs.Common.{rules}
+use Rattle.machine.proofs.Theory.RunAnswer.{run_refused, run_tried}
 use Rattle.machine.proofs.run.Goals as goal
 
-pub returns-in_default : goal.returns-in_default
-returns-in_default c = search (run_stopped, rules)
-
-pub returns-in_default-asked : goal.returns-in_default-asked
-returns-in_default-asked c = search (run_refused, rules)
-
-pub tried-requires : goal.tried-requires
-tried-requires c = record { submission_read = search (read, bytes); program_value = search program_good; program_value_2 = search program_asks }
+pub returns-in_err-read : goal.returns-in_err-read
+returns-in_err-read c = run_refused _ _ _ c.read.ensures.answer _ c.in_err-read.was (search rules)
 
 pub returns : goal.returns
-returns c = search (run_tried, rules)
+returns c = run_tried _ _ _ c.read.ensures.answer _ c.in_ok-read.was (rw (c.in_ok-read.ensures.submission, c.in_ok-read.ensures.program) at c.tried.ensures)

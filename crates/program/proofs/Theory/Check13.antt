@@ -2,102 +2,55 @@
 use mathlib.Core.Path.{◌≡◌, refl, sym, ap, ◌∙◌, subst}
 use mathlib.Core.Logic.Iff
 use mathlib.Core.Logic.{◌↔◌}
-use mathlib.Core.Bool.{Bool, true, false, not, cond, or-true, true≢false, false≢true}
+use mathlib.Core.Bool.{Bool, true, false, not, cond, or-true, ◌||◌, true≢false, false≢true}
 use mathlib.Core.Option.{Option, none, some}
 use mathlib.Core.List.{List}
-use Prim.Native.Nat.{ℕ, ◌+◌, ◌*◌, ◌≤◌, ◌<◌}
+use Prim.Native.Nat.{ℕ, ◌+◌, ◌≤◌, ◌<◌}
 use lib.Dec.{eqb, ltb}
 use lib.ListN.{length}
 use native.Mathlib.Omega.{arith}
 use borrow.Author.Tests.{eq-eqb, ne_eqb, lt-ltb, le-ltb, eqb-true, ltb-false}
 use Rattle.base.specs.Words.{byte}
-use Rattle.base.proofs.First.{Passed}
-use Rattle.base.proofs.Scan.{true_any, false_any}
 use Rattle.base.proofs.Says.{Says, says_true, says_eqb, says_ltb, says_and, says_any, denies, not_not_false, or-false}
 use Rattle.term.specs.Number.{rules, has_one}
 use Rattle.submission.specs.Record.{entries}
 use Rattle.term.specs.Term.{Relation}
 use Rattle.term.specs.Code.{relation_is}
 use Rattle.term.specs.declared.Relation.{Relation as RelationGiven}
-use Rattle.program.specs.declared.Asked.{Asked}
-use Rattle.program.specs.declared.Asked.TheVariants.{Asks, Nothing}
-use Rattle.program.specs.Code.{relation_in, asked}
+use Rattle.std.specs.Prelude.{Option as Maybe, Some, None, Result, Ok, Err}
+use Rattle.base.specs.declared.refusal.Refusal.{Refusal}
+use Rattle.std.specs.Option.{ok_or}
+use Rattle.base.specs.{Code.check_of, Computed.fails_if}
+use Rattle.program.specs.Code.{relation_in, asked, asks}
 use Rattle.program.specs.Program.{row_of, relation_of, Instruction, program_length, instruction_at, test_at, operand, RegistersFit, ProgramFits}
 use Rattle.base.specs.Computed.{any}
-use Rattle.term.specs.Computed.{is_rule}
 use Rattle.program.specs.Computed.{good_registers, bad_instruction, bad_test, bad_program}
-
--- ---- registers, where n are written
-module _ {n x a : ℕ} (b : ℕ) (one : Bool) (e : x ≡ a) where
-  pub left_unwritten : n ≤ x → false ≡ good_registers n one a b
-  left_unwritten l = rw (← e, le-ltb x n l)
-
-  pub unused_byte : x < n → one ≡ true → eqb b 0 ≡ good_registers n one a b
-  unused_byte l t = rw (← e, lt-ltb x n l, t)
-
-  pub right_written : {y : ℕ} → x < n → one ≡ false → y ≡ b → ltb y n ≡ good_registers n one a b
-  right_written l t f = rw (← e, lt-ltb x n l, t, f)
-
--- ---- an instruction and a test, where n registers are written
-module _ (n : ℕ) (i : Instruction) where
-  pub bad_rule : {o : Bool} → o ≡ is_rule i.rule → o ≡ false → true ≡ bad_instruction n i
-  unfolding bad_instruction
-  bad_rule e f = rw (← e, f)
-
-  pub bad_operands : {o b r : Bool} → o ≡ is_rule i.rule → o ≡ true → b ≡ has_one i.rule → r ≡ good_registers n b i.left i.right → not r ≡ bad_instruction n i
-  unfolding bad_instruction
-  bad_operands e t f g = rw (g, ← e, t, f)
-
-module _ (n : ℕ) (t : Instruction) {o : Asked} (e : relation_in o ≡ relation_of t.rule) where
-  pub bad_letter : o ≡ Nothing → true ≡ bad_test n t
-  unfolding bad_test
-  bad_letter h = let z : relation_of t.rule ≡ none = sym e ∙ ap relation_in h in rw (z, bad_test)
-
-  pub bad_registers : {x : RelationGiven} {k : ℕ} {r : Bool} → o ≡ Asks x → k ≡ (row_of (relation_is x)).registers → r ≡ good_registers n (eqb k 1) t.left t.right → not r ≡ bad_test n t
-  unfolding bad_test
-  bad_registers h f g = let z = sym e ∙ ap relation_in h in rw (g, z, f, bad_test)
 
 -- ---- the instructions of the program P, where k registers hold the knowledge
 abbrev pub bad_at : ℕ → List ℕ → ℕ → Bool
 bad_at k P i = bad_instruction (k + 1 + i) (instruction_at P i)
 
-pub bad_here : (k i : ℕ) (P : List ℕ) {u w : ℕ} {b d : Bool} {x : Instruction} →
-    u ≡ k → w ≡ i → x ≡ instruction_at P i → b ≡ bad_instruction (u + 1 + w) x → b ≡ d → bad_instruction (k + 1 + i) (instruction_at P i) ≡ d
-bad_here k i P e f g h t = cc
-
--- a scan up to a count that was read
-module _ {p : ℕ → Bool} {n i N : ℕ} (v : Passed p n i) (c : n ≡ N) where
-  pub some_bad : i < n → p i ≡ true → true ≡ any p N
-  some_bad l t = rw (← c) (true_any v l t)
-
-  pub none_bad : n ≤ i → false ≡ any p N
-  none_bad l = rw (← c) (false_any v l)
-
 -- ---- a program
-module _ (s P : List ℕ) where
-  pub empty_program : length P ≡ 0 → true ≡ bad_program s P
+module _ (s P : List ℕ) {n : ℕ} (c : n ≡ byte P 0) where
+  pub long_program : 128 < n → true ≡ bad_program s P
   unfolding bad_program
-  empty_program e = rw e
+  long_program l = rw (← c, lt-ltb 128 n l, or-true)
 
-  module _ {n : ℕ} (c : n ≡ byte P 0) where
-    pub long_program : 128 < n → true ≡ bad_program s P
+  pub odd_program : (length P ≡ program_length n → ⊥) → true ≡ bad_program s P
+  unfolding bad_program
+  odd_program f = rw (← c, ne_eqb _ _ f, or-true, or-true)
+
+  -- the first byte is right, and so is the length
+  module _ (f : n ≤ 128) (l : length P ≡ program_length n) {k : ℕ} (h : k ≡ entries s) where
+    right_length : (any (bad_at k P) (byte P 0) || bad_test (k + 1 + n) (test_at P)) ≡ bad_program s P
     unfolding bad_program
-    long_program l = rw (← c, lt-ltb 128 n l, or-true)
+    right_length = let o : (length P ≡ 0 → ⊥) = λ z. omega arith in rw (h, ne_eqb _ _ o, ← c, le-ltb 128 n f, eq-eqb _ _ l)
 
-    module _ {w : ℕ} (v : w ≡ n) where
-      pub odd_program : (length P ≡ 3 * w + 4 → ⊥) → true ≡ bad_program s P
-      unfolding bad_program
-      odd_program f = rw (← c, ← v, ne_eqb _ _ f, or-true, or-true)
+    pub bad_steps : {b : Bool} → b ≡ any (bad_at k P) (byte P 0) → b ≡ true → b ≡ bad_program s P
+    bad_steps e t = rw (← right_length, ← e, t)
 
-      module _ {k : ℕ} (h : k ≡ entries s) where
-        pub bad_steps : {b : Bool} → b ≡ any (bad_at k P) (byte P 0) → b ≡ true → true ≡ bad_program s P
-        unfolding bad_program
-        bad_steps e t = simp (← h, ← e, t, or-true)
-
-        pub program_test : {b r : Bool} {t : Instruction} {u w' : ℕ} → (length P ≡ 0 → ⊥) → n ≤ 128 → length P ≡ 3 * w + 4 →
-            b ≡ any (bad_at k P) (byte P 0) → b ≡ false → u ≡ k → w' ≡ n → t ≡ test_at P → r ≡ bad_test (u + 1 + w') t → r ≡ bad_program s P
-        unfolding bad_program
-        program_test f g l e a q y z o = o ∙ rw (← z, q, y, ← v, ← h, ne_eqb _ _ f, ← e, a, ← c, ← v, le-ltb 128 w (omega arith), eq-eqb _ _ l)
+    pub program_test : {b r : Bool} {t : Instruction} {u w : ℕ} → b ≡ any (bad_at k P) (byte P 0) → b ≡ false → u ≡ k → w ≡ n → t ≡ test_at P → r ≡ bad_test (u + 1 + w) t → r ≡ bad_program s P
+    program_test e a q y z o = o ∙ rw (← right_length, ← e, a, ← z, q, y)
 
 -- ---- what check 13 says: row 13
 says_registers : (n : ℕ) (one : Bool) (i : Instruction) → Says (good_registers n one i.left i.right) (RegistersFit n one i)
@@ -191,26 +144,32 @@ module _ (s P : List ℕ) {b : Bool} (e : b ≡ bad_program s P) where
   pub nothing_asked : b ≡ true → none ≡ asked s P
   nothing_asked t = rw (← e, t)
 
-  pub relation_asked : (o : Asked) {t : Instruction} → b ≡ false → t ≡ test_at P → relation_in o ≡ relation_of t.rule → relation_in o ≡ asked s P
-  relation_asked o h g f = f ∙ rw (← e, h, g)
+  -- of a good program the test's letter is one, so the refusal r never goes out
+  pub program_checked : (o : Maybe RelationGiven) (r : Refusal) {t : Instruction} → b ≡ false → t ≡ test_at P → relation_in o ≡ relation_of t.rule →
+      (check_of (ok_or o r) ≡ fails_if (bad_program s P) 13 0) × (asks (ok_or o r) ≡ asked s P)
+  program_checked None r h g f =
+      let w = (program_iff s P).0 (sym e ∙ h) in
+      let z : none ≡ some w.relation = f ∙ rw g w.letter_right in
+      absurd (let o : ◌≡◌ {A = ℕ} 0 1 = cc in omega arith)
+  program_checked (Some x) r h g f = (rw (← e, h), f ∙ rw (← e, h, g))
 
-module _ (s P : List ℕ) {o : Asked} (e : relation_in o ≡ asked s P) where
-  by_case : (b : Bool) → bad_program s P ≡ b → (o ≡ Nothing → bad_program s P ≡ true) ×
-      ((x : RelationGiven) → o ≡ Asks x → (bad_program s P ≡ false) × (relation_of (test_at P).rule ≡ some (relation_is x)))
-  by_case true f = (λ h. f, λ x h. let z : none ≡ some (relation_is x) = rw f at (sym e ∙ ap relation_in h) in absurd (let o : ◌≡◌ {A = ℕ} 0 1 = cc in omega arith))
+module _ (s P : List ℕ) {o : Result RelationGiven Refusal} (e : asks o ≡ asked s P) where
+  by_case : (b : Bool) → bad_program s P ≡ b → ((x : Refusal) → o ≡ Err x → bad_program s P ≡ true) ×
+      ((x : RelationGiven) → o ≡ Ok x → (bad_program s P ≡ false) × (relation_of (test_at P).rule ≡ some (relation_is x)))
+  by_case true f = (λ x h. f, λ x h. let z : none ≡ some (relation_is x) = rw f at (sym e ∙ ap asks h) in absurd (let o : ◌≡◌ {A = ℕ} 0 1 = cc in omega arith))
   by_case false f = (
-    λ h.
+    λ x h.
         let g = ((program_iff s P).0 f).letter_right in
-        let z : relation_of (test_at P).rule ≡ none = rw f at (sym e ∙ ap relation_in h) in
+        let z : relation_of (test_at P).rule ≡ none = rw f at (sym e ∙ ap asks h) in
         absurd (let o : ◌≡◌ {A = ℕ} 0 1 = cc in omega arith),
-    λ x h. (f, rw f at (sym e ∙ ap relation_in h)),
+    λ x h. (f, rw f at (sym e ∙ ap asks h)),
   )
 
-  pub program_bad : o ≡ Nothing → bad_program s P ≡ true
-  program_bad = (by_case (bad_program s P) refl).0
+  pub program_bad : {x : Refusal} → o ≡ Err x → bad_program s P ≡ true
+  program_bad h = (by_case (bad_program s P) refl).0 _ h
 
-  pub program_good : {x : RelationGiven} → o ≡ Asks x → bad_program s P ≡ false
+  pub program_good : {x : RelationGiven} → o ≡ Ok x → bad_program s P ≡ false
   program_good h = ((by_case (bad_program s P) refl).1 _ h).0
 
-  pub program_asks : {x : RelationGiven} → o ≡ Asks x → relation_of (test_at P).rule ≡ some (relation_is x)
+  pub program_asks : {x : RelationGiven} → o ≡ Ok x → relation_of (test_at P).rule ≡ some (relation_is x)
   program_asks h = ((by_case (bad_program s P) refl).1 _ h).1

@@ -1,18 +1,17 @@
 -- A program's value, as its array is filled: it holds the instructions of a list, one more each time.
-use mathlib.Core.Path.{◌≡◌, sym, ap, ◌∙◌}
-use mathlib.Core.List.{List, []}
-use Prim.Native.Nat.{ℕ, ◌+◌, ◌<◌}
+use mathlib.Core.Path.{◌≡◌, refl, sym, ap, ◌∙◌}
+use mathlib.Core.List.{List}
+use Prim.Native.Nat.{ℕ, zero, suc, ◌+◌, ◌<◌, ◌≤◌}
 use native.Mathlib.Omega.{arith}
-use lib.ListN.{length, get_or, set, length-set}
-use lib.Seq.{get_or-set_same, get_or-set_other}
+use lib.ListN.{length, get_or, set, take, length-set}
+use lib.Seq.{take-suc, get_or-set_same, get_or-set_other}
+use Rattle.std.proofs.lemmas.List.{length-map, map-append}
 use borrow.Author.Count.{below_more}
-use Rattle.base.specs.Words.{listed}
-use Rattle.base.proofs.Grow.{length_listed, grow_alike}
+use Rattle.base.specs.Words.{listed, grow}
 use Rattle.program.specs.declared.Instruction.{Instruction as InstructionRead}
-use Rattle.program.specs.declared.Test.{Test as TestRead}
 use Rattle.program.specs.declared.Program.{Program as ProgramRead}
 use Rattle.program.specs.Program.{Instruction, Program}
-use Rattle.program.specs.Code.{instruction_in, test_in, held_at, program_in}
+use Rattle.program.specs.Code.{instruction_in, instructions_in, program_in}
 
 abbrev blank : InstructionRead
 blank = record { rule = 0; left = 0; right = 0 }
@@ -33,11 +32,16 @@ holds_more {f} {i} {k} {xs} {x} w l e q = rw q (record {
       (ap instruction_in (get_or-set_same xs i x blank (omega (arith, w.long))) ∙ e);
 })
 
--- the value with n of them and a test
-pub holds_all : {f : ℕ → Instruction} {n : ℕ} {xs : List InstructionRead} {t : TestRead} {u : Instruction} → Holds f n xs → test_in t ≡ u →
-    program_in (record { instructions = xs; count = n; test = t }) ≡ record { steps = listed f n; test = u }
-holds_all {f} {n} {xs} w e = rw (e, grow_alike [] (λ l k. instruction_in (get_or xs k blank)) (λ l k. f k) n (λ k l b. w.is k b))
+-- the first n of them are the list
+pub held_steps : {f : ℕ → Instruction} {n : ℕ} {xs : List InstructionRead} → Holds f n xs → n ≤ 128 → instructions_in (take n xs) ≡ listed f n
+unfolding grow
+held_steps {n = zero} w h = refl
+held_steps {f} {n = suc i} {xs} w h =
+    let l : i < length xs = omega (arith, w.long) in
+    let v : Holds f i xs = record { long = w.long; is = λ k b. w.is k (omega arith) } in
+    let e : instruction_in (get_or xs i blank) ≡ f i = w.is i (omega arith) in
+    rw (take-suc xs i blank l, map-append, e, held_steps v (omega arith))
 
 -- the count of a value's instructions
-pub held_count : (v : ProgramRead) {p : Program} → program_in v ≡ p → v.count ≡ length p.steps
-held_count v e = sym (length_listed (held_at v) v.count) ∙ ap (λ (q : Program). length q.steps) e
+pub held_count : (v : ProgramRead) {p : Program} → program_in v ≡ p → length v.instructions.now ≡ length p.steps
+held_count v e = sym (length-map v.instructions.now instruction_in) ∙ ap (λ (q : Program). length q.steps) e

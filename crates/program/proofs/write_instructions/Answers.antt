@@ -1,12 +1,16 @@
--- `write_instructions` meets its contract: the loop has written the first i instructions, and the rest of the part is as it was.
-use Rattle.program.proofs.Theory.Writing.{wrote_none, wrote_more, wrote_all}
+-- `write_instructions` meets its contract: the bytes of the instructions before this one are written.
+use Rattle.base.proofs.PutLaws.{wrote_none}
+use Rattle.std.proofs.Common.{rules}
+use Rattle.program.specs.Program.{instruction_bytes}
+use Rattle.program.proofs.Theory.Writing.{wrote_more, wrote_all}
 use Rattle.program.proofs.write_instructions.Goals as goal
 
-pub loop-i-init : goal.loop-i-init
-loop-i-init c = search wrote_none
+pub loop-x-init : goal.loop-x-init
+unfolding instruction_bytes
+loop-x-init c = wrote_none
 
-pub loop-i-preserved : goal.loop-i-preserved
-loop-i-preserved c = wrote_more c.loop-i.invariant c.loop-i-test.true c.wide-k.ensures c.put_three.ensures
+pub loop-x-preserved : goal.loop-x-preserved
+loop-x-preserved c = wrote_more _ _ _ c.loop-x.invariant c.loop-x-test.true c.put_array.ensures
 
 pub returns : goal.returns
-returns c = search wrote_all
+returns c = wrote_all _ c.loop-x.invariant c.loop-x-test.false c.new-writer.ensures.now c.new-writer.ensures.at (search rules)

@@ -1,10 +1,7 @@
--- `write_instructions` meets its contract: the loop has written the first i instructions, and the rest of the part is as it was.
-use Prim.Native.Nat.{◌-◌}
-use Rattle.program.proofs.Theory.Writing.{Wrote}
+-- `write_instructions` meets its contract: the bytes of the instructions before this one are written.
+use Rattle.base.specs.Answer.{Wrote}
+use Rattle.program.proofs.Theory.Writing.{code}
 use Rattle.program.proofs.write_instructions.Given as goal
 
-abbrev pub invariant-loop-i : goal.invariant-loop-i
-invariant-loop-i l = Wrote l.initial.part l.program l.n l.i l.part
-
-abbrev pub decreases-loop-i : goal.decreases-loop-i
-decreases-loop-i l = l.n - l.i
+abbrev pub invariant-loop-x : goal.invariant-loop-x
+invariant-loop-x l = Wrote l.initial.writer (code l.instructions l.x-index) l.writer

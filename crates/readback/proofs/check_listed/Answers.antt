@@ -1,15 +1,12 @@
 -- `check_listed` meets its contract: the registers passed hold listed terms.
+use Rattle.base.proofs.First.{passed_more}
+use Rattle.base.proofs.StageLaws.{fails_hit, passes_all}
 use Rattle.std.proofs.Common.{rules}
 use Rattle.readback.proofs.ReadReturns.{off_found, on_found, register_in}
-use Rattle.base.proofs.First.{passed_none, passed_more}
-use Rattle.base.proofs.StageLaws.{fails_hit, passes_all}
 use Rattle.readback.proofs.check_listed.Goals as goal
 
-pub loop-r-init : goal.loop-r-init
-loop-r-init c = search (passed_none, rules)
-
-pub bounds-numbers-r : goal.bounds-numbers-r
-bounds-numbers-r c = search (register_in, rules)
+pub bounds-numbers-from : goal.bounds-numbers-from
+bounds-numbers-from c = register_in c.args.checked.program.now c.args.checked.submission.read c.args.checked.good c.register_count-registers.ensures c.from.ensures c.loop-r-test.true
 
 pub returns-then-terms-numbers : goal.returns-then-terms-numbers
 returns-then-terms-numbers c = search (fails_hit, off_found, rules)

@@ -14,7 +14,7 @@ use Rattle.base.proofs.Says.{Says, says_true, says_eqb, says_ltb, says_and, says
 use Rattle.term.specs.Term.{Kind, plain, public, private, other_kind, asymmetric, Form, Second, absent, anything, key_for, second, unary, make, Term, atom, node, is_key, inverse, Match, Shape, atomic, compound, shape, is_key_for, Operands, branch, message}
 use Rattle.term.specs.Code.{Message, Below, Table}
 use Rattle.term.specs.{Number.shape_of, Computed.kind_of, Computed.inverse_kinds}
-use Rattle.term.proofs.Kind.{kind_shape, shape_kind}
+use Rattle.term.proofs.KindLaws.{kind_shape, shape_kind}
 use Rattle.base.specs.Words.{Bytes, first}
 use Rattle.term.proofs.Table.{decode_inj, decoded_reads}
 use Rattle.term.specs.Computed.{is_atomic}

@@ -1,5 +1,4 @@
 -- `check_limits` meets its contract: the counts before i are within their limits.
-use Prim.Native.Nat.{◌-◌}
 use lib.ListN.{get_or}
 use Rattle.base.proofs.First.{Passed}
 use Rattle.submission.specs.Computed.{bad_count}
@@ -7,6 +6,3 @@ use Rattle.submission.proofs.check_limits.Given as goal
 
 abbrev pub invariant-loop-i : goal.invariant-loop-i
 invariant-loop-i l = Passed (bad_count (λ k. get_or l.counts k 0)) 4 l.i
-
-abbrev pub decreases-loop-i : goal.decreases-loop-i
-decreases-loop-i l = 4 - l.i

@@ -1,5 +1,4 @@
 -- `check_terms` meets its contract: the records before i are good, and their chains are made.
-use Prim.Native.Nat.{◌-◌}
 use Rattle.base.proofs.First.{Passed}
 use Rattle.submission.specs.Computed.{bad_term}
 use Rattle.base.specs.Code.{Chaining}
@@ -7,7 +6,4 @@ use Rattle.submission.specs.Code.{chained_by}
 use Rattle.submission.proofs.check_terms.Given as goal
 
 abbrev pub invariant-loop-i : goal.invariant-loop-i
-invariant-loop-i l = Passed (bad_term l.s) l.n l.i × Chaining (chained_by l.s) l.i l.before l.latest
-
-abbrev pub decreases-loop-i : goal.decreases-loop-i
-decreases-loop-i l = l.n - l.i
+invariant-loop-i l = Passed (bad_term l.s) l.n l.i × Chaining (chained_by l.s) l.i l.chains.before l.chains.latest

@@ -12,20 +12,11 @@ overflow_mul-i c = search scan
 pub byte-requires : goal.byte-requires
 byte-requires c = search scan
 
-pub bounds-letters-i : goal.bounds-letters-i
-bounds-letters-i c = search scan
-
-pub returns-then-byte-letters : goal.returns-then-byte-letters
-returns-then-byte-letters c = search (letter_wrong, scan)
-
-pub overflow_add-i : goal.overflow_add-i
-overflow_add-i c = search scan
-
-pub loop-i-smaller : goal.loop-i-smaller
-loop-i-smaller c = search scan
-
 pub loop-i-preserved : goal.loop-i-preserved
 loop-i-preserved c = search (letter_right, scan)
 
 pub returns : goal.returns
 returns c = search scan
+
+pub returns-then-byte-letter : goal.returns-then-byte-letter
+returns-then-byte-letter c = search (letter_wrong, scan)

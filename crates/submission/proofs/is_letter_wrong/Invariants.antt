@@ -1,5 +1,5 @@
 -- `is_letter_wrong` meets its contract: the letters before i are right.
-use Prim.Native.Nat.{◌-◌, ◌*◌}
+use Prim.Native.Nat.{◌*◌}
 use mathlib.Core.Bool.{not}
 use lib.Dec.{eqb}
 use Rattle.base.specs.Words.{byte}
@@ -9,6 +9,3 @@ use Rattle.submission.proofs.is_letter_wrong.Given as goal
 
 abbrev pub invariant-loop-i : goal.invariant-loop-i
 invariant-loop-i l = Passed (λ k. not (eqb (byte l.s (4 * k)) (letter k))) 4 l.i
-
-abbrev pub decreases-loop-i : goal.decreases-loop-i
-decreases-loop-i l = 4 - l.i

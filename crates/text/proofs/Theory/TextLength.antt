@@ -1,39 +1,30 @@
 -- How long the printed texts are at most, and that a buffer with that much room holds them whole.
 use mathlib.Core.Path.{◌≡◌}
-use mathlib.Core.Logic.{⊎_elim}
 use mathlib.Core.Bool.{Bool, true, false, cond}
 use mathlib.Core.Option.{Option, none, some}
 use mathlib.Core.List.{List}
-use Prim.Native.Nat.{ℕ, zero, suc, ◌+◌, ◌*◌, ◌^◌, ◌/◌, ◌≤◌, ◌<◌}
-use native.Mathlib.Nat.{pow-suc, le_trans}
+use Prim.Native.Nat.{ℕ, zero, suc, ◌+◌, ◌*◌, ◌^◌, ◌≤◌, ◌<◌}
+use native.Mathlib.Nat.{le_trans}
 use native.Mathlib.Omega.{arith}
 use lib.ListN.{length, take, length-append}
-use Rattle.base.proofs.Order.{lt_or_ge}
 use Rattle.term.specs.Number.{has_one}
 use Rattle.term.proofs.Rule.{word_length}
 use Rattle.base.specs.Answer.{done}
 use Rattle.base.specs.Words.{byte, Bytes}
 use Rattle.term.specs.Term.{Relation, equal, inverses}
 use Rattle.program.specs.Program.{relation_of, relation_word, Instruction, instruction_at, test_at}
-use Rattle.text.specs.Text.{digits, register_text, second_text, step_line, step_lines, test_line, refused_text, answer_text}
+use Rattle.std.proofs.lemmas.Fmt.{length-decimal-le}
+use Rattle.text.specs.Text.{decimal, register_text, second_text, step_line, step_lines, test_line, refused_text, answer_text}
 use Rattle.base.specs.Answer.{Puts}
 use Rattle.base.proofs.PutLaws.{puts_whole}
-use Rattle.text.proofs.Theory.Decimal.{digits_one, digits_more}
+use Rattle.text.proofs.Theory.Decimal.{decimal_is}
 
 -- a number below ten to the k has at most k digits
-digits_length : (k f n : ℕ) → n < 10 ^ suc k → length (digits f n) ≤ suc k
-unfolding digits
-digits_length k zero n h = omega arith
-digits_length zero (suc f) n h = rw (digits_one f n h) (omega arith)
-digits_length (suc k) (suc f) n h =
-    ⊎_elim (λ (l : n < 10). rw (digits_one f n l) (omega arith))
-    (λ (l : 10 ≤ n).
-    let g : n < 10 ^ suc k * 10 = rw pow-suc at h in
-    rw (digits_more f n l, length-append) (omega (arith, digits_length k f (n / 10) (omega arith))))
-    (lt_or_ge n 10)
+decimal_length : (k n : ℕ) → 0 < k → n < 10 ^ k → n < 65536 → length (decimal n) ≤ k
+decimal_length k n z h l = rw (← (decimal_is n l)) (length-decimal-le k n z h (omega arith))
 
 register_length : (r : ℕ) → r < 1000 → length (register_text r) ≤ 4
-register_length r h = omega (arith, digits_length 2 (suc r) r h)
+register_length r h = omega (arith, decimal_length 3 r (omega arith) h (omega arith))
 
 picked_length : (m : ℕ) (b : Bool) (x y : List ℕ) → length x ≤ m → length y ≤ m → length (cond b x y) ≤ m
 picked_length m true x y h k = h
@@ -68,7 +59,7 @@ module _ (page : List ℕ) (bytes : Bytes page) where
   unfolding answer_text instruction_at
   accepted_length known n h k =
       simp length-append
-      (omega (arith, digits_length 2 (suc n) n (omega arith), steps_length (known + 1) n (omega arith), test_length (test_at page) (omega (arith, bytes (3 * byte page 0 + 2))) (omega (arith, bytes (3 * byte page 0 + 3)))))
+      (omega (arith, decimal_length 3 n (omega arith) (omega arith) (omega arith), steps_length (known + 1) n (omega arith), test_length (test_at page) (omega (arith, bytes (3 * byte page 0 + 2))) (omega (arith, bytes (3 * byte page 0 + 3)))))
 
   -- an acceptance is printed whole; a buffer of 4,096 bytes is long enough for 128 steps, and one of 8,192 for 255
   pub accepted_whole : {out out' : List ℕ} {r : ℕ} (known n : ℕ) → known < 256 → n < 256 → 22 * n + 37 ≤ length out → Puts out 0 (answer_text known (done n) page) out' r → (r ≡ length (answer_text known (done n) page)) × (take r out' ≡ answer_text known (done n) page)
@@ -76,7 +67,7 @@ module _ (page : List ℕ) (bytes : Bytes page) where
 
 refused_length : (number place : ℕ) → number < 256 → place < 65536 → length (refused_text number place) ≤ 18
 refused_length number place h k =
-    simp length-append (omega (arith, digits_length 2 (suc number) number (omega arith), digits_length 4 (suc place) place (omega arith)))
+    simp length-append (omega (arith, decimal_length 3 number (omega arith) (omega arith) (omega arith), decimal_length 5 place (omega arith) (omega arith) k))
 
 -- and so is a refusal
 pub refused_whole : {out out' : List ℕ} {r : ℕ} (number place : ℕ) → number < 256 → place < 65536 → 18 ≤ length out → Puts out 0 (refused_text number place) out' r → (r ≡ length (refused_text number place)) × (take r out' ≡ refused_text number place)

@@ -1,7 +1,6 @@
 -- The letter r, then the number.
-use Rattle.text.proofs.LineReturns.{register_put}
-use Rattle.std.proofs.Common.{rules}
+use Rattle.base.proofs.PutLaws.{wrote_then}
 use Rattle.text.proofs.put_register.Goals as goal
 
 pub returns : goal.returns
-returns c = search (register_put, rules)
+returns c = wrote_then c.put.ensures c.put_number.ensures

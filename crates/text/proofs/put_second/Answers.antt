@@ -1,10 +1,9 @@
--- Nothing under a rule with one operand, else a space and the register.
-use Rattle.text.proofs.LineReturns.{one_put, two_put}
-use Rattle.std.proofs.Common.{rules}
+-- Under a rule with two operands, a space and the register.
+use mathlib.Core.Bool.{false}
+use Rattle.std.proofs.Common.{◌≡◌}
+use Rattle.base.proofs.PutLaws.{wrote_then}
+use Rattle.term.specs.Number.{has_one}
 use Rattle.text.proofs.put_second.Goals as goal
 
-pub returns-then-has_one : goal.returns-then-has_one
-returns-then-has_one c = search (one_put, rules)
-
-pub returns : goal.returns
-returns c = search (two_put, rules)
+pub returns-then-not-has_one : goal.returns-then-not-has_one
+returns-then-not-has_one c = let e : has_one c.args.rule ≡ false = cc in rw (e, ← c.from.ensures) (wrote_then c.put.ensures c.put_register.ensures)

@@ -1,17 +1,13 @@
--- The loop's invariant: the lines of the instructions passed stand in the buffer.
+-- The lines of the instructions passed are written.
+use Rattle.std.proofs.Common.{arith}
 use Rattle.text.proofs.LineReturns.{steps_none, steps_more, steps_all}
-use Rattle.std.proofs.Common.{rules}
-use Rattle.base.proofs.PutLaws.{puts_length}
 use Rattle.text.proofs.put_steps.Goals as goal
 
 pub loop-i-init : goal.loop-i-init
-loop-i-init c = search (steps_none, rules)
+loop-i-init c = search steps_none
 
 pub loop-i-preserved : goal.loop-i-preserved
-loop-i-preserved c = (search rules, search (steps_more, rules))
-
-pub shape_of-out : goal.shape_of-out
-shape_of-out c = search (puts_length, rules)
+loop-i-preserved c = steps_more _ _ _ c.loop-i.invariant c.from.ensures c.instruction_at.ensures c.put_step.ensures
 
 pub returns : goal.returns
-returns c = search (steps_all, rules)
+returns c = steps_all _ _ _ _ (omega arith) (omega arith) c.loop-i.invariant

@@ -1,0 +1,136 @@
+// The parts that a term is built from, what opens a record, and what waits for a term.
+ghost use Rattle.std.specs.Prelude.{◌≡◌, ◌<◌};
+ghost use Rattle.submission.specs.Record.{terms, record_at};
+ghost use Rattle.inverse.specs.Code.{Inverses};
+ghost use Rattle.deduction.specs.Code.{parts_of, opens_by, opening_of, key_clause, first_clause, second_clause, clause_of};
+
+use submission::Table;
+use term::Kind;
+
+// The two parts that term t is built from: an atom has none.
+#[tactic(auto, using(crate::proofs::BuildMemo::parts_nothing, crate::proofs::BuildMemo::parts_both))]
+pub fn parts_of(table: Table, t: u8) -> Option<(u8, u8)>
+    requires { t < terms table.bytes.now }
+    ensures { result ≡ parts_of (record_at table.entry.bytes.now t) }
+{
+    let term = table.term(t);
+    if term.is_atom() {
+        return None;
+    }
+    Some((term.x, term.second_part()))
+}
+
+// What opens a record: a pair gives both parts freely, an encryption its body where the key can be built, and anything else nothing.
+#[derive(Clone, Copy)]
+pub enum Opening {
+    Freely { x: u8, y: u8 },
+    With { body: u8, key: u8 },
+    Shut,
+}
+
+// An encryption is opened by this key, 255 for none.
+fn with_key(body: u8, key: u8) -> Opening
+    ensures { result ≡ opens_by body key }
+{
+    if key == 255 {
+        return Opening::Shut;
+    }
+    Opening::With { body, key }
+}
+
+// As what a record waits for a term: as the key that opens it, or as its first or its second part, to be built from.
+#[derive(Clone, Copy)]
+pub enum Role {
+    Key,
+    First,
+    Second,
+}
+
+// From `term` and `other`, `result`.
+#[derive(Clone, Copy)]
+pub struct Clause {
+    pub term: u8,
+    pub other: u8,
+    pub result: u8,
+}
+
+// The table with the number of each term's inverse, or 255 where none is listed.
+#[derive(Drop)]
+pub struct Openings<'a> {
+    pub table: Table<'a>,
+    pub inverses: [u8; 256],
+    pub ghost found: { Inverses table.bytes.now inverses },
+}
+
+impl<'a> Openings<'a> {
+    pub fn of(table: Table<'a>) -> Self
+        ensures { result.table.bytes.now ≡ table.entry.bytes.now }
+    {
+        let inverses = inverse::find(table);
+        Openings { table, inverses }
+    }
+
+    #[tactic(auto, using(crate::proofs::RecordOpening::opens_none, crate::proofs::RecordOpening::opens_freely, crate::proofs::RecordOpening::opens_symmetric, crate::proofs::RecordOpening::opens_asymmetric))]
+    pub fn opening_of(&self, t: u8) -> Opening
+        requires { t < terms self.now.table.bytes.now }
+        ensures { result ≡ opening_of self.now.table.bytes.now t }
+    {
+        let term = self.table.term(t);
+        let Some(kind) = term.kind() else {
+            return Opening::Shut;
+        };
+        match kind {
+            Kind::Pair => Opening::Freely {
+                x: term.x,
+                y: term.y,
+            },
+            Kind::Enc => Opening::With {
+                body: term.x,
+                key: term.y,
+            },
+            Kind::Enca => with_key(term.x, self.inverses[usize::from(term.y)]),
+            _ => Opening::Shut,
+        }
+    }
+
+    // An encryption and the key that opens it give its body.
+    fn clause_of_key(&self, t: u8) -> Option<Clause>
+        requires { t < terms self.now.table.bytes.now }
+        ensures { result ≡ key_clause t (opening_of self.now.table.bytes.now t) }
+    {
+        let Opening::With { body, key } = self.opening_of(t) else {
+            return None;
+        };
+        Some(Clause {
+            term: key,
+            other: t,
+            result: body,
+        })
+    }
+
+    // What record t gives, in its role. Its two parts give its own term.
+    pub(crate) fn clause_of(&self, role: Role, t: u8) -> Option<Clause>
+        requires { t < terms self.now.table.bytes.now }
+        ensures { result ≡ clause_of self.now.table.bytes.now role t }
+    {
+        match role {
+            Role::Key => self.clause_of_key(t),
+            Role::First => {
+                let (x, y) = parts_of(self.table, t)?;
+                Some(Clause {
+                    term: x,
+                    other: y,
+                    result: t,
+                })
+            }
+            Role::Second => {
+                let (x, y) = parts_of(self.table, t)?;
+                Some(Clause {
+                    term: y,
+                    other: x,
+                    result: t,
+                })
+            }
+        }
+    }
+}

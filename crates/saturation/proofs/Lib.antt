@@ -1,5 +1,0 @@
-pub mod Clauses
-pub mod Firing
-pub mod MarkArrays
-pub mod MarkOrder
-pub mod Saturation
