@@ -13,7 +13,7 @@ use Rattle.base.specs.Computed.{Check, passes, fails, fails_at, fails_if, and_th
 pub fails_not_passes : {A : Type 0} {number place : ℕ} → fails number place ≡ passes → A
 fails_not_passes e = absurd (let z : ◌≡◌ {A = ℕ} 0 1 = cc in omega arith)
 
-refused_not_done : {A : Type 0} {number place n : ℕ} → refused number place ≡ done n → A
+pub refused_not_done : {A : Type 0} {number place n : ℕ} → refused number place ≡ done n → A
 refused_not_done e = absurd (let z : ◌≡◌ {A = ℕ} 0 1 = cc in omega arith)
 
 pub if_passes : (b : Bool) (number place : ℕ) → (fails_if b number place ≡ passes) ↔ (b ≡ false)

@@ -4,8 +4,8 @@ use mathlib.Core.List.{List, [], ◌∷◌}
 use Prim.Native.Nat.{ℕ, zero, suc, ◌+◌, ◌-◌, ◌≤◌, ◌<◌}
 use native.Mathlib.Nat.{add-zero, add-suc, zero-add}
 use native.Mathlib.Omega.{arith}
-use lib.ListN.{length, get_or, take, length-append, get_or-append}
-use lib.Seq.{get_or-append_seam, take-suc}
+use lib.ListN.{length, get_or, length-append, get_or-append}
+use lib.Seq.{get_or-append_seam}
 use Rattle.base.specs.Words.{grow, listed}
 
 module _ {A : Type 0} (s : List A) (f : List A → ℕ → A) where
@@ -44,9 +44,3 @@ pub grow_alike : {A : Type 0} (s : List A) (f g : List A → ℕ → A) (n : ℕ
 unfolding grow
 grow_alike s f g zero h = refl
 grow_alike s f g (suc n) h = rw (grow_alike s f g n (λ i l b. h i l (omega arith)), h n (grow s g n) (omega arith))
-
--- the first entries of a list, one by one
-pub listed_taken : (f : ℕ → ℕ) (l : List ℕ) (n : ℕ) → n ≤ length l → ((i : ℕ) → i < n → get_or l i 0 ≡ f i) → take n l ≡ listed f n
-unfolding grow
-listed_taken f l zero b h = refl
-listed_taken f l (suc n) b h = take-suc l n 0 (omega arith) ∙ rw (listed_taken f l n (omega arith) (λ i m. h i (omega arith)), h n (omega arith))

@@ -6,13 +6,14 @@ use Prim.Native.Nat.{ℕ, suc, ◌+◌, ◌-◌, ◌≤◌, ◌<◌, min}
 use borrow.Rule.Slice.PartMut.{put_mid}
 use lib.Seq.{drop-drop}
 use Rattle.std.proofs.Common.{append_assoc}
-use native.Mathlib.Nat.{add-zero, zero-add, add-suc, suc-add}
+use native.Mathlib.Nat.{add-zero, zero-add, add-suc, suc-add, le_antisymm}
+use native.Mathlib.Numerals.{add-one}
 use native.Mathlib.Omega.{arith}
 use lib.ListN.{length, set, take, drop, length-append, take-append-drop, drop_of_length-le}
 use lib.Seq.{sets, sets-eq, length-sets, set_out, take-append_seam, take_all, length-take-le}
 use Rattle.base.proofs.Order.{lt_or_ge}
 use Rattle.base.specs.declared.writer.Writer.{Writer}
-use Rattle.base.specs.Answer.{Puts, Wrote}
+use Rattle.base.specs.{Answer.Puts, Code.Wrote}
 
 -- past the end nothing is stored
 sets_past : (l : List ℕ) (i : ℕ) (vs : List ℕ) → length l ≤ i → sets l i vs ≡ l
@@ -54,6 +55,13 @@ wrote_none = record { same = refl; puts = puts_none }
 pub wrote_then : {u v w : Writer} {xs ys : List ℕ} → Wrote u xs v → Wrote v ys w → Wrote u (xs ++ ys) w
 wrote_then p q = record { same = q.same ∙ p.same; puts = puts_then p.puts q.puts }
 
+-- records one after the other, as a loop puts them: all n has the first n, and each n is the next; at the end they are n
+pub next_put : {u v w : Writer} {n : ℕ} (all each : ℕ → List ℕ) → all (suc n) ≡ all n ++ each n → Wrote u (all n) v → Wrote v (each n) w → Wrote u (all (n + 1)) w
+next_put all each e p q = rw (add-one, e) (wrote_then p q)
+
+pub all_put : {u v : Writer} {m n : ℕ} (all : ℕ → List ℕ) → m ≤ n → n ≤ m → Wrote u (all m) v → Wrote u (all n) v
+all_put all l h p = rw (← (le_antisymm l h)) p
+
 -- a writer of the buffer d, from its start on, and the buffer p when the writer is done
 pub wrote_out : {u w : Writer} {text d p : List ℕ} → Wrote u text w → u.buffer.now ≡ d → u.at ≡ 0 → p ≡ w.buffer.now → Puts d 0 text p w.at
 wrote_out {text = text} a e f g = record { stored = g ∙ a.puts.stored ∙ rw (e, f); place = a.puts.place ∙ rw (e, f) }
@@ -94,7 +102,3 @@ puts_room a i bytes part n k h e f g =
     (λ (l : length bytes ≤ length a - i). rw (take_all n bytes (omega arith)))
     (lt_or_ge (length a - i) (length bytes)) in
     record { stored = p ∙ r; place = omega arith }
-
--- what was written is no longer than the buffer
-pub puts_taken : {a b text : List ℕ} {k : ℕ} → Puts a 0 text b k → k ≡ length (take k b)
-puts_taken {a} {b} {text} {k} p = sym (length-take-le k b (omega (arith, puts_length p, p.place)))

@@ -1,40 +1,28 @@
 -- What a check answers, from its tests: a scan that found its first failing place or none, a test that held or did not; and the checks in order.
 use mathlib.Core.Path.{◌≡◌, sym, ◌∙◌, ap}
-use mathlib.Core.Bool.{Bool, true, false}
+use mathlib.Core.Bool.{Bool, true}
 use mathlib.Core.List.{List}
 use Prim.Native.Nat.{ℕ, ◌<◌, ◌≤◌}
 use mir.Syntax.{w8}
 use mir.Val.{Fits}
 use Rattle.base.specs.Words.{first, byte, Bytes}
 use Rattle.base.proofs.First.{Passed, passed_hit, passed_all}
-use Rattle.std.specs.Prelude.{Result, Ok, Err}
+use Rattle.std.specs.Prelude.{Result, Ok}
 use Rattle.base.specs.declared.refusal.Refusal.{Refusal}
 use Rattle.base.specs.declared.refusal.Fault.{Fault}
-use Rattle.base.specs.Answer.{Answer, number_of, refused}
+use Rattle.base.specs.Answer.{number_of}
 use Rattle.base.specs.Code.{check_of}
-use Rattle.base.specs.Computed.{Check, passes, fails, fails_at, fails_if, and_then, answered}
+use Rattle.base.specs.Computed.{Check, passes, fails, fails_at}
 
 -- a scan: its bound and the place were returned by calls, and are k and i; and a refusal r is that of row m
 module _ {m : ℕ} {r : Refusal} {f : Fault} (q : r.fault ≡ f) (w : number_of f ≡ m) where
   pub fails_hit : {n k i : ℕ} {p : ℕ → Bool} → Passed p n i → i < n → n ≡ k → r.place ≡ i → p i ≡ true → fails (number_of r.fault) r.place ≡ fails_at m (first p k)
   fails_hit s l g e t = rw (q, w, ← g, e, passed_hit s l t)
 
-  pub fails_if_lem : {k : ℕ} (b : Bool) → r.place ≡ k → b ≡ true → fails (number_of r.fault) r.place ≡ fails_if b m k
-  fails_if_lem b e t = rw (q, w, e, t)
-
 pub passes_all : (m : ℕ) {n k i : ℕ} {p : ℕ → Bool} → Passed p n i → n ≤ i → n ≡ k → passes ≡ fails_at m (first p k)
 passes_all m s l f = rw (← f, passed_all s l)
 
-pub passes_if : (b : Bool) (m k : ℕ) → b ≡ false → passes ≡ fails_if b m k
-passes_if b m k e = rw e
-
 -- ---- the checks in order: the result r of the earlier checks d was a refusal, and went out; or they passed, and the later ones e went on
-pub stopped : {T : Type 0} (d e : Check) {r : Result T Refusal} {x : Refusal} → check_of r ≡ d → r ≡ Err x → check_of r ≡ and_then d e
-stopped d e h q = rw (← h, q)
-
-pub went_on : {T : Type 0} (d e : Check) {r : Result T Refusal} {v : T} {x : Check} → check_of r ≡ d → r ≡ Ok v → x ≡ e → x ≡ and_then d e
-went_on d e h q g = rw (← h, q) g
-
 -- ---- what a caller learns of a stage that passed, and of a slice
 -- the elements of a slice are bytes: of a function with the parameter `s: &[u8]`, `c .. .shared-slice-known .given` is the premise
 pub bytes : (s : List ℕ) → ((i : ℕ) → Fits w8 (byte s i)) → Bytes s
@@ -44,8 +32,3 @@ pub stage_passes : {T : Type 0} (d : Check) {r : Result T Refusal} {v : T} → c
 stage_passes d e h = sym e ∙ ap check_of h
 
 -- ---- the answer of a call: the value where the checks d passed, else their refusal
-pub answer_passed : {T : Type 0} (d : Check) {r : Result T Refusal} {v : T} (a : Answer) → check_of r ≡ d → r ≡ Ok v → a ≡ answered d a
-answer_passed d a h q = rw (← h, q)
-
-pub answer_refused : {T : Type 0} (d : Check) {r : Result T Refusal} {x : Refusal} (a : Answer) → check_of r ≡ d → r ≡ Err x → refused (number_of x.fault) x.place ≡ answered d a
-answer_refused d a h q = rw (← h, q)

@@ -12,9 +12,6 @@ use mathlib.Core.Bool.{Bool, true, false, false≢true}
 use Rattle.base.specs.{Code.Flagged, Computed.any}
 use Rattle.base.proofs.Says.{says_eqb, says_any, same_test}
 
-pub set_here : (l : List ℕ) (t v : ℕ) → t < length l → get_or (set l t v) t 0 ≡ v
-set_here l t v b = get_or-set_same l t v 0 b
-
 -- what holds of the stored place and of every other holds of all
 pub each_set : {A : Type 0} (z : A) (P : ℕ → A → Type 0) (l : List A) (t : ℕ) (v : A) → t < length l → P t v →
     ((n : ℕ) → (n ≡ t → ⊥) → P n (get_or l n z)) → (n : ℕ) → P n (get_or (set l t v) n z)

@@ -3,7 +3,7 @@ use Rattle.std.specs.Prelude.{◌≡◌, ◌⊎◌, ◌∷◌, ◌++◌, ◌+◌
 use Rattle.std.specs.Prelude.{Result, Ok, Err}
 use Rattle.base.specs.declared.refusal.Fault.{Fault}
 use Rattle.base.specs.declared.refusal.Fault.TheVariants.{Contents, Count, Term, Knowledge, Claim, Step, Unfounded, Reachable, NoSecondWay, Undone, Page, NoSuchTerm, Program, Ragged, Stale, NotShown, OffTable, NoClaim, ShortSheet}
-use Rattle.base.specs.{declared.refusal.Refusal.Refusal, declared.writer.Writer.Writer, Words.List, Words.[], Words.ℕ, Words.min, Words.length, Words.drop, Words.sets}
+use Rattle.base.specs.{declared.refusal.Refusal.Refusal, Words.List, Words.[], Words.ℕ, Words.min, Words.length, Words.drop, Words.sets}
 
 -- "An acceptance carries N"; deducible's yes and no are 1 and 0, and so is the signal; an acceptance that writes a page "carries their number
 -- unless another count is named", of the bytes written. "Every refusal carries number and place."
@@ -52,11 +52,6 @@ pub record Writes (Says : Answer → Type 0) (a : Answer) (written page page' : 
 pub record Puts (old : List ℕ) (i : ℕ) (bytes new : List ℕ) (j : ℕ) : Type 0 where
   pub stored : new ≡ sets old i bytes
   pub place : j ≡ i + min (length bytes) (length old - i)
-
--- the same of a writer, which keeps its buffer
-pub record Wrote (old : Writer) (bytes : List ℕ) (new : Writer) : Type 0 where
-  pub same : new.buffer.ghost_name ≡ old.buffer.ghost_name
-  pub puts : Puts old.buffer.now old.at bytes new.buffer.now new.at
 
 -- a row of the table: its number, and what it says of its place
 abbrev pub numbered : ℕ → (ℕ → Type 0) → ℕ → ℕ → Type 0

@@ -9,12 +9,14 @@ pub mod writer;
 
 ghost use Rattle.std.specs.Prelude.{◌≡◌, ℕ, ◌+◌, ◌*◌, ◌^◌, ◌<◌, get_or};
 ghost use Rattle.base.specs.Words.{byte as byte_at};
+ghost use Rattle.base.specs.Code.{check_of};
+ghost use Rattle.base.specs.Computed.{check_room as room_check};
 
 pub use byte_chains::ByteChains;
 pub use refusal::{Fault, Refusal};
 pub use writer::Writer;
 
-// The byte at i, or 0 past the end.
+// The byte at i, or 0 past the end, as the definitions read it.
 pub fn byte(s: &[u8], i: usize) -> u8
     ensures { result ≡ byte_at s.now i }
 {
@@ -27,14 +29,14 @@ pub fn bytes_at<const N: usize>(s: &[u8], at: usize) -> [u8; N]
     ensures { (i : ℕ) → i < N → get_or result i 0 ≡ byte_at s.now (at + i) }
 {
     let mut bytes = [0u8; N];
-    // Where the last byte is there, so are the others: one test in place of N.
+    // Where all N are there, the compiler knows how many are copied: without this path `deducible` of M1 takes 2722 instructions, and not 2095.
     if at + N <= s.len() {
         bytes.copy_from_slice(&s[at..at + N]);
         return bytes;
     }
-    for i in 0..N {
-        bytes[i] = byte(s, at + i);
-    }
+    let from = at.min(s.len());
+    let count = s.len() - from;
+    bytes[..count].copy_from_slice(&s[from..from + count]);
     bytes
 }
 
@@ -44,4 +46,11 @@ pub fn word(s: &[u8], i: usize) -> usize
     ensures { result ≡ byte_at s.now i * 256 + byte_at s.now (i + 1) }
 {
     usize::from(u16::from_be_bytes(bytes_at::<2>(s, i)))
+}
+
+// Check 11: the page, of `room` bytes, has no room for what is written.
+pub fn check_room(room: usize, needed: u16) -> Result<(), Refusal>
+    ensures { check_of result ≡ room_check needed room }
+{
+    Fault::Page.at(needed).when(room < usize::from(needed))
 }

@@ -1,6 +1,8 @@
 // What a check refuses: a row of the table of verdicts, by its word, and the place.
 ghost use Rattle.std.specs.Prelude.{◌≡◌};
 ghost use Rattle.base.specs.Answer.{number_of};
+ghost use Rattle.base.specs.Code.{check_of, place_is};
+ghost use Rattle.base.specs.Computed.{fails_at, fails_if};
 
 // The rows of the table of verdicts.
 #[derive(Clone, Copy, PartialEq, Eq)]
@@ -27,7 +29,7 @@ pub enum Fault {
 }
 
 impl Fault {
-    // The row's number.
+    // The row's number. A method has the word: `u8::from(fault)` doesn't tell a number from a place.
     pub fn number(self) -> u8
         ensures { result ≡ number_of self }
     {
@@ -41,6 +43,16 @@ impl Fault {
     {
         Refusal { fault: self, place }
     }
+
+    // A check of places one after the other: it refuses at the first that is wrong, where there is one.
+    pub fn at_first(self, wrong: Option<u16>) -> Result<(), Refusal>
+        ensures { check_of result ≡ fails_at (number_of self) (place_is wrong) }
+    {
+        match wrong {
+            Some(place) => Err(self.at(place)),
+            None => Ok(()),
+        }
+    }
 }
 
 // A refusal carries the row's number, by its fault, and the place.
@@ -48,4 +60,13 @@ impl Fault {
 pub struct Refusal {
     pub fault: Fault,
     pub place: u16,
+}
+
+impl Refusal {
+    // A check of one test: it refuses where `wrong` is so.
+    pub fn when(self, wrong: bool) -> Result<(), Refusal>
+        ensures { check_of result ≡ fails_if wrong (number_of self.fault) self.place }
+    {
+        if wrong { Err(self) } else { Ok(()) }
+    }
 }

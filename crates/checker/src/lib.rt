@@ -1,4 +1,5 @@
-// The public calls together: `check`, `deducible`, `deduction`, `run`, `write`, `inverses` and `read_back`, the text of a verdict, and the calls for C.
+// The public calls together: `check`, `answer`, `deducible`, `deduction`, `run`, `write`, `inverses` and `read_back`, the text of a verdict, and
+// the calls for C.
 // Promises: every call is total, for all bytes, and its answer and the bytes that it writes are what the definitions of specs/ give.
 #![tactic(auto)]
 
@@ -9,7 +10,7 @@ ghost use Rattle.conditions.specs.Calls.{Checked};
 ghost use Rattle.checker.specs.Calls.{Printed};
 
 use conditions::Verdict;
-pub use conditions::check;
+pub use conditions::{answer, check};
 pub use deduction::deducible;
 pub use form::write;
 pub use inverse::inverses;

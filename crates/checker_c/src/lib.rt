@@ -1,4 +1,5 @@
-// The static library for C: the calls of `checker`, under the names that include/checker.h declares.
+// The static library for C: the calls of `checker`, under the names that include/checker.h declares. Each is a function here that calls the one of
+// `checker::calls` and says its clauses again: `no_mangle` on a function of a library exports nothing, and neither does a `pub use` here.
 // Promises: of each call what the call of the same name in `checker` promises.
 #![tactic(auto)]
 

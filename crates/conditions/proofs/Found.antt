@@ -1,52 +1,36 @@
 -- Numbers that the code finds: the lowest register of a term, and what is known by it; the first number at which a test holds.
 use mathlib.Core.Path.{◌≡◌, refl, sym, ap, ◌∙◌}
-use mathlib.Core.Bool.{Bool, true, false}
+use mathlib.Core.Bool.{Bool, false}
 use mathlib.Core.List.{List}
-use mathlib.Core.Option.{Option, none, some}
+use mathlib.Core.Option.{none, some}
 use mathlib.Core.Logic.{⊎_elim}
 use Prim.Native.Nat.{ℕ, ◌+◌, ◌≤◌, ◌<◌}
 use native.Mathlib.Omega.{arith}
 use lib.Dec.{leb}
-use lib.ListN.{get_or}
-use borrow.Author.Tests.{ne_eqb, le-leb, lt-leb}
-use Rattle.base.specs.{Words.first, Code.is_some}
-use Rattle.base.proofs.First.{first_none, first_some, passed_any, passed_not_any, passed_hit, passed_all}
+use borrow.Author.Tests.{le-leb, lt-leb}
+use Rattle.base.specs.{Words.first, Code.is_some, Code.place_is}
+use Rattle.base.proofs.Find.{FoundIn, found_none, found_some}
+use Rattle.base.proofs.First.{first_none, first_some, passed_any, passed_not_any}
 use Rattle.base.proofs.Order.{lt_or_ge}
 use Rattle.submission.specs.{Record.entries, Record.steps}
 use Rattle.derivation.specs.{Step.written, Computed.is_known}
 use Rattle.derivation.specs.Code.{Lowest, register_in}
 use Rattle.derivation.specs.Computed.{lowest_among}
-use Rattle.derivation.specs.Step.{holds_term}
-use Rattle.std.specs.Prelude.{Option as Maybe, Some, None, MatchOption, is_some as is_held}
+use Rattle.std.specs.Prelude.{Option as Maybe, Some, None, MatchOption, IsSomeAnd, is_some as is_held}
 use Rattle.conditions.specs.Code.{number_is}
-use Rattle.base.specs.Computed.{any, or_none}
+pub use Rattle.derivation.proofs.RegistersHeld.{held_number}
+use Rattle.base.specs.Computed.{any}
 
 -- ---- what is known, by the lowest register v of the term t
-module _ {s : List ℕ} {n : ℕ} {g : List ℕ} (w : Lowest s n g) (t : ℕ) (b : t < 256) {v : Maybe ℕ} (e : v ≡ register_in g t) where
+module _ {s : List ℕ} {n : ℕ} {g : List (Maybe ℕ)} (w : Lowest s n g) (t : ℕ) (b : t < 256) {v : Maybe ℕ} (e : v ≡ register_in g t) where
   pub register_found : number_is v ≡ lowest_among s n t
-  register_found = go (lowest_among s n t) refl
-    where
-      go : (o : Option ℕ) → lowest_among s n t ≡ o → number_is v ≡ lowest_among s n t
-      go none f =
-          let z : get_or g t 0 ≡ 255 = w.each t b ∙ ap or_none f in
-          rw (e, f, register_in, z)
-      go (some q) f =
-          let z : get_or g t 0 ≡ q = w.each t b ∙ ap or_none f in
-          let l = first_some (holds_term s t) n q f in
-          rw (e, f, register_in, z, ne_eqb q 255 (λ k. omega (arith, w.few, l.0)))
+  register_found = ap number_is e ∙ w.each t b
 
 -- ---- a number that is found
-pub held_number : (v : Maybe ℕ) → is_held v ≡ is_some (number_is v)
-held_number None = refl
-held_number (Some i) = refl
-
 -- by `find`
-pub first_found_is : (p : ℕ → Bool) {n m : ℕ} (v : Maybe ℕ) → n ≡ m →
-    MatchOption v ((k : ℕ) → 0 ≤ k → k < n → p k ≡ false) (λ i. (0 ≤ i) × (i < n) × (p i ≡ true) × ((k : ℕ) → 0 ≤ k → k < i → p k ≡ false)) → number_is v ≡ first p m
-first_found_is p {n} None q h = rw (← q) (sym (passed_all {i = n} (record { within = omega arith; failed = λ k l. h k (omega arith) l }) (omega arith)))
-first_found_is p (Some i) q h =
-    let (a, l, e, f) = h in
-    rw (← q) (sym (passed_hit {i = i} (record { within = omega arith; failed = λ k m. f k (omega arith) m }) l e))
+pub first_found_is : (p : ℕ → Bool) {n m : ℕ} (v : Maybe ℕ) → n ≡ m → FoundIn p n v → number_is v ≡ first p m
+first_found_is p None e h = sym (found_none p None h e refl)
+first_found_is p (Some i) e h = sym (found_some p (Some i) h e refl)
 
 -- whether it is below m
 module _ (p : ℕ → Bool) (n m : ℕ) (l : m ≤ n) where
@@ -73,3 +57,9 @@ module _ (s : List ℕ) (t : ℕ) (v : Maybe ℕ) (e : number_is v ≡ lowest_am
       go : (o : Maybe ℕ) → v ≡ o → MatchOption o (r ≡ false) Q → r ≡ is_known s 0 t
       go None g h = h ∙ none_below _ (written s (steps s)) (written s 0) (omega arith) (sym e ∙ ap number_is g)
       go (Some i) g h = m i h ∙ found_below _ (written s (steps s)) (written s 0) (omega arith) i k (omega arith) (sym e ∙ ap number_is g)
+
+-- a place mapped to its own number
+pub mapped : (o r : Maybe ℕ) → MatchOption o (r ≡ None) (λ x. IsSomeAnd r (λ y. y ≡ x)) → place_is r ≡ place_is o
+mapped None r h = ap place_is h
+mapped (Some x) None h = absurd h
+mapped (Some x) (Some y) h = ap some h

@@ -1,4 +1,3 @@
-pub mod CheckReturns
 pub mod Found
 pub mod PassedFacts
 pub mod ProgramValue

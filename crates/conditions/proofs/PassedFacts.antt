@@ -12,7 +12,7 @@ use Rattle.submission.specs.Check.{way_of, Target, Claims, verifier, derived, cl
 use Rattle.submission.specs.Computed.{checks1to5}
 use Rattle.base.proofs.AnswerLaws.{if_passes, then_passes}
 use Rattle.base.proofs.Says.{not_not_false}
-use Rattle.submission.proofs.PassedChecks.{limited, body_passes}
+use Rattle.submission.proofs.PassedChecks.{limited, body_passes, table_passed}
 use Rattle.submission.proofs.Theory.ListedTerms.{Claimed, claimed, verifying_below}
 use Rattle.derivation.specs.declared.Step.{Step}
 use Rattle.derivation.specs.Step.{StepFits}
@@ -36,7 +36,7 @@ module _ {s : List ℕ} (h : Founded s) where
   founded_claimed = claimed s h.bytes h.read
 
   pub founded_read : TableRead s
-  founded_read = record { bytes = h.bytes; passed = body_passes s h.read }
+  founded_read = table_passed s h.bytes h.read
 
   pub founded_limited : Limited s
   founded_limited = limited s (body_passes s h.read)

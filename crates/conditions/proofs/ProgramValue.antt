@@ -1,13 +1,14 @@
 -- The register program as it is computed: each instruction, the test, and the value that holds them.
-use mathlib.Core.Path.{◌≡◌, sym, ap, ◌∙◌}
-use mathlib.Core.Bool.{Bool, true, false}
+use mathlib.Core.Path.{◌≡◌, refl, sym, ap, ◌∙◌}
+use mathlib.Core.Bool.{Bool, true, false, cond}
 use mathlib.Core.List.{List, ◌++◌}
 use mathlib.Core.Option.{none, some}
 use mathlib.Core.Logic.{⊎_elim}
 use Prim.Native.Nat.{ℕ, ◌≤◌, ◌<◌}
 use native.Mathlib.Omega.{arith}
+use lib.Dec.{eqb}
 use lib.ListN.{length, take, drop}
-use borrow.Author.Tests.{eq-eqb}
+use borrow.Author.Tests.{eq-eqb, eqb-true}
 use Rattle.base.specs.{Code.is_some}
 use Rattle.base.proofs.Says.{says_true, says_and}
 use Rattle.term.specs.Number.{has_one}
@@ -16,7 +17,7 @@ use Rattle.submission.specs.{Record.steps, Record.conclusion_at, Record.verifyin
 use Rattle.submission.specs.declared.Row.{Row as RowRead}
 use Rattle.submission.specs.declared.Target.{Target as TargetRead}
 use Rattle.submission.specs.Check.{Way, another_step, at_start, inverse_key, guess_derived, inverse_derived, way_of, claims_in, knowledge_step, given_register, row}
-use Rattle.submission.specs.Code.{way_is, target_is, operand_is, row_is, IsClaim}
+use Rattle.submission.specs.Code.{way_is, target_is, operand_is, step_named, IsRow, IsClaim}
 use Rattle.program.specs.Program.{bytes_of, program_length}
 use Rattle.derivation.specs.declared.Step.{Step}
 use Rattle.derivation.specs.{Step.written, Computed.is_known}
@@ -24,7 +25,7 @@ use Rattle.submission.specs.Record.{second_at}
 use Rattle.derivation.specs.Computed.{unfounded}
 use Rattle.derivation.specs.Code.{IsStep}
 use Rattle.derivation.specs.Computed.{lowest_among}
-use Rattle.std.specs.Prelude.{Option as Maybe, Some, is_some as is_held}
+use Rattle.std.specs.Prelude.{Option as Maybe, Some, None, is_some as is_held}
 use Rattle.derivation.proofs.Theory.StepMeaning.{fits_iff, steps_pass}
 use Rattle.derivation.specs.Step.{StepFits}
 use Rattle.derivation.proofs.Theory.KnownPremises.{first_known, second_known, known_stays}
@@ -86,14 +87,22 @@ module _ {s : List ℕ} (h : Acceptable s) where
   tested_held inverse_derived e = (tt, ap claims_in e)
 
   -- the row x of the claim's way, read by the code
-  module _ {c : Claim} (k : IsClaim s c) (x : RowRead) (e : row_is x ≡ row (way_is c.way)) where
+  module _ {c : Claim} (k : IsClaim s c) (x : RowRead) (e : IsRow x (way_is c.way)) where
     pub left_held : Held s (operand_is x.tested)
-    left_held = rw (ap (λ z. z.tested) e) (tested_held (way_is c.way) k.way).0
+    left_held = rw e.tested (tested_held (way_is c.way) k.way).0
 
     pub right_held : Held s (operand_is x.against)
-    right_held = rw (ap (λ z. z.against) e) (tested_held (way_is c.way) k.way).1
+    right_held = rw e.against (tested_held (way_is c.way) k.way).1
 
 -- ---- the register of what gives the term claimed
+-- a number that names no step
+no_step : {n : ℕ} {v : Maybe ℕ} → v ≡ step_named n → v ≡ None → n ≡ knowledge_step
+no_step {n} e q = go (eqb n knowledge_step) refl (sym e ∙ q)
+  where
+    go : (b : Bool) → eqb n knowledge_step ≡ b → cond b None (Some n) ≡ None → n ≡ knowledge_step
+    go true f h = eqb-true _ _ f
+    go false f h = absurd (let z : ◌≡◌ {A = ℕ} 0 1 = cc in omega arith)
+
 module _ {s : List ℕ} (h : Acceptable s) {c : Claim} (k : IsClaim s c) (t : TargetRead) (held : Held s (given_register (target_is t))) where
   claim : Claimed s
   claim = founded_claimed (acceptable_founded h)
@@ -101,16 +110,16 @@ module _ {s : List ℕ} (h : Acceptable s) {c : Claim} (k : IsClaim s c) (t : Ta
   all_fit : (i : ℕ) → i < steps s → StepFits s i
   all_fit i l = (fits_iff claim.read i).0 ((steps_pass s).0 (acceptable_founded h).founded i l).0
 
-  module _ (v : Maybe ℕ) (e : c.step ≡ knowledge_step) (f : number_is v ≡ entry_found s (target_is t)) where
+  module _ (v : Maybe ℕ) {o : Maybe ℕ} (d : o ≡ step_named c.step) (e : o ≡ None) (f : number_is v ≡ entry_found s (target_is t)) where
     pub entry_there : is_held v ≡ true
     unfolding is_given
-    entry_there = held_number v ∙ ap is_some f ∙ rw (eq-eqb _ _ (sym k.step ∙ e)) at (target_given h (target_is t) held)
+    entry_there = held_number v ∙ ap is_some f ∙ rw (eq-eqb _ _ (sym k.step ∙ no_step d e)) at (target_given h (target_is t) held)
 
     pub entry_named : {r : ℕ} → v ≡ Some r → r ≡ named s (given_register (target_is t))
     unfolding entry_given
     entry_named {r} g =
         let z : entry_found s (target_is t) ≡ some r = sym f ∙ ap number_is g in
-        rw (eq-eqb _ _ (sym k.step ∙ e)) (ap (λ o. elim o [ none ↦ 0 | some r ↦ r ]) (sym z ∙ same_entry claim all_fit (target_is t) held))
+        rw (eq-eqb _ _ (sym k.step ∙ no_step d e)) (ap (λ o. elim o [ none ↦ 0 | some r ↦ r ]) (sym z ∙ same_entry claim all_fit (target_is t) held))
 
   pub step_few : (c.step ≡ knowledge_step → ⊥) → c.step < 128
   step_few d = ⊎_elim (λ l. rw k.step (one_of_steps h _ l)) (λ e. absurd (d (k.step ∙ e))) (given_range claim (target_is t) held)

@@ -1,6 +1,6 @@
--- What the call `check` promises: its verdict, and document 01's register program on the page.
-use Rattle.std.specs.Prelude.{◌≡◌}
-use Rattle.base.specs.{Words.true, Words.false, Words.ite, Words.cond, Words.List, Words.Option, Words.none, Words.some, Words.ℕ, Words.eqb, Words.length, Words.first, Words.listed, Answer.Answer, Answer.done, Answer.refused, Answer.Writes}
+-- What the calls `check` and `answer` promise: the verdict, and document 01's register program on the page.
+use Rattle.std.specs.Prelude.{◌≡◌, Result}
+use Rattle.base.specs.{declared.refusal.Refusal.Refusal, Words.true, Words.false, Words.ite, Words.cond, Words.List, Words.Option, Words.none, Words.some, Words.ℕ, Words.eqb, Words.length, Words.first, Words.listed, Answer.Answer, Answer.done, Answer.refused, Answer.answer_of, Answer.Writes}
 use Rattle.term.specs.{Number.has_one, Computed.term?}
 use Rattle.submission.specs.{Record.entries, Record.steps, Record.entry_at, Record.term, Record.rule_at, Record.p_at, Record.q_at, Record.conclusion_at, Record.verifying, Record.way_at, Record.companion, Check.Way, Check.way_of, Check.Operand, Check.verifying_result, Check.companion_result, Check.lowest_conclusion, Check.lowest_companion, Check.guess_register, Check.given_register, Check.Target, Check.knowledge_step, Check.row}
 use Rattle.derivation.specs.Step.{holds_term, written}
@@ -45,3 +45,7 @@ verdict_answer (Refused number place) = refused number place
 -- the verdict r and the page afterwards: the answer of checking, and where it is done the submission's register program
 abbrev pub Checked : List ℕ → List ℕ → Verdict → List ℕ → Type 0
 Checked s page r page' = Writes (λ a. verdict_answer r ≡ a) (check_answer s (length page)) (bytes_of (program s)) page page'
+
+-- the same of the result r of `answer`
+abbrev pub ProgramWritten : List ℕ → List ℕ → Result ℕ Refusal → List ℕ → Type 0
+ProgramWritten s page r page' = Writes (λ a. answer_of r ≡ a) (check_answer s (length page)) (bytes_of (program s)) page page'

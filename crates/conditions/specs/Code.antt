@@ -1,16 +1,12 @@
 -- What the code's tests and requirements mean in document 01's terms.
-use mathlib.Core.{Path.◌≡◌, Logic.◌⊎◌, Logic.◌↔◌, Bool.Bool, Bool.true, Bool.◌&&◌, Bool.◌||◌, Bool.not, List.List, Option.Option, Option.none, Option.some}
-use Rattle.std.specs.Prelude.{ℕ, ◌<◌, eqb, Option as Maybe, Some, None}
+use mathlib.Core.{Path.◌≡◌, Logic.◌⊎◌, Logic.◌↔◌, Bool.Bool, Bool.true, Bool.◌&&◌, Bool.◌||◌, Bool.not, List.List}
+use Rattle.std.specs.Prelude.{ℕ, ◌<◌, eqb}
 use Rattle.base.specs.{Computed.passes, Words.Bytes}
 use Rattle.submission.specs.{Record.steps, Record.rule_at, Record.conclusion_at, Record.verifying, Record.companion, Check.Operand, Check.verifying_result, Check.companion_result, Check.lowest_conclusion, Check.lowest_companion, Check.guess_register, Check.given_register, Check.derived, Check.claims, Computed.checks1to5}
 use Rattle.term.specs.Term.{Term}
 use Rattle.derivation.specs.{Computed.is_known, Computed.check_steps, Step.rule, Step.Premise}
+pub use Rattle.derivation.specs.Code.{number_is}
 use Rattle.conditions.specs.{Computed.same_premises, Computed.checks_before_page}
-
--- the number that the code found
-abbrev pub number_is : Maybe ℕ → Option ℕ
-number_is None = none
-number_is (Some n) = some n
 
 -- bytes that passed checks 1 to 7
 pub record Founded (s : List ℕ) : Type 0 where

@@ -1,20 +1,22 @@
-// What a claim asks for: conditions 3 to 5, checks 8 to 10 in this order; or check 16.
+// Conditions 4 and 5, which are checks 9 and 10; and what a claim asks for: checks 8 to 10, or 16.
 ghost use Rattle.std.specs.Prelude.{◌≡◌, ◌&&◌, not};
 ghost use Rattle.submission.specs.Record.{steps, p_at, way_at, verifying, second_at};
 ghost use Rattle.submission.specs.Computed.{are_inverse};
-ghost use Rattle.submission.specs.Check.{way_of, verifier, claims};
+ghost use Rattle.submission.specs.Check.{way_of, claims};
 ghost use Rattle.base.specs.Computed.{fails_if, fails_at};
 ghost use Rattle.base.specs.Code.{check_of};
 ghost use Rattle.derivation.specs.Step.{written};
 ghost use Rattle.derivation.specs.Computed.{is_known};
 ghost use Rattle.derivation.specs.Code.{IsStep, Lowest};
-ghost use Rattle.conditions.specs.Computed.{reachable, is_premise, same_premises, has_second_way, dismantles as dismantles_by, undoes_step, undone, checks8to10, check_met};
+ghost use Rattle.conditions.specs.Computed.{is_premise, same_premises, has_second_way, dismantles as dismantles_by, undoes_step, undone, check_met};
 ghost use Rattle.conditions.specs.Code.{Founded as PassedSteps, other_way};
 ghost use Rattle.base.specs.Words.{first};
 
+use crate::given;
+use crate::verifier::Verifier;
 use base::{Fault, Refusal};
 use derivation::{Derivation, Registers, Step};
-use submission::{Claims, Table, Way};
+use submission::{Claims, Way};
 use term::rules;
 
 // A derivation whose steps passed checks 6 and 7, and its registers.
@@ -28,33 +30,10 @@ pub struct Founded<'a> {
 
 impl<'a> Founded<'a> {
     // The verifying step.
-    fn verifying(self) -> Step
+    pub fn verifying(self) -> Step
         ensures { IsStep self.entry.derivation.bytes.now self.entry.derivation.claim.step result }
     {
         self.derivation.step(self.derivation.claim.step)
-    }
-
-    // Condition 3 broken: both premises of the verifying step are deducible from the knowledge, without the guess.
-    #[tactic(auto, using(crate::proofs::PassedFacts::founded))]
-    fn is_reachable(self) -> bool
-        requires { claims self.derivation.bytes.now ≡ verifier }
-        ensures { result ≡ reachable self.entry.derivation.bytes.now }
-    {
-        let step = self.verifying();
-        let bytes = self.derivation.bytes;
-        let start = deduction::knowledge_marks(bytes);
-        deduction::are_deducible(Table { bytes }, &start, step.p, step.second())
-    }
-
-    // Check 8.
-    fn check_reachable(self) -> Result<(), Refusal>
-        requires { claims self.derivation.bytes.now ≡ verifier }
-        ensures { check_of result ≡ fails_if (reachable self.entry.derivation.bytes.now) 8 (verifying self.entry.derivation.bytes.now) }
-    {
-        if self.is_reachable() {
-            return Err(Fault::Reachable.at(u16::from(self.derivation.claim.step)));
-        }
-        Ok(())
     }
 
     // Whether t is a premise of step i.
@@ -124,13 +103,12 @@ impl<'a> Founded<'a> {
     }
 
     // Check 9.
-    fn check_second_way(self) -> Result<(), Refusal>
+    pub fn check_second_way(self) -> Result<(), Refusal>
         ensures { check_of result ≡ fails_if (not (has_second_way self.entry.derivation.bytes.now (way_of (way_at self.entry.derivation.bytes.now)))) 9 (verifying self.entry.derivation.bytes.now) }
     {
-        if self.has_second_way() {
-            return Ok(());
-        }
-        Err(Fault::NoSecondWay.at(u16::from(self.derivation.claim.step)))
+        Fault::NoSecondWay
+            .at(u16::from(self.derivation.claim.step))
+            .when(!self.has_second_way())
     }
 
     // Whether step j undoes step i: one of them takes apart the very term that the other builds.
@@ -154,40 +132,21 @@ impl<'a> Founded<'a> {
     }
 
     // Check 10.
-    fn check_undone(self) -> Result<(), Refusal>
+    pub fn check_undone(self) -> Result<(), Refusal>
         ensures { check_of result ≡ fails_at 10 (first (undone self.entry.derivation.bytes.now) (steps self.entry.derivation.bytes.now)) }
     {
-        for i in 0..self.derivation.steps() {
-            if self.is_undone(i) {
-                return Err(Fault::Undone.at(u16::from(i)));
-            }
-        }
-        Ok(())
+        let undone = (0..self.derivation.steps()).find(|i| self.is_undone(*i));
+        Fault::Undone.at_first(undone.map(u16::from))
     }
 
-    // Checks 8 to 10; a refusal goes straight out.
-    fn check_conditions(self) -> Result<(), Refusal>
-        requires { claims self.derivation.bytes.now ≡ verifier }
-        ensures { check_of result ≡ checks8to10 self.entry.derivation.bytes.now }
-    {
-        let reachable = self.check_reachable();
-        let Ok(()) = reachable else {
-            return reachable;
-        };
-        let second_way = self.check_second_way();
-        let Ok(()) = second_way else {
-            return second_way;
-        };
-        self.check_undone()
-    }
-
-    // The checks of what the claim's way claims: 8 to 10 of a verifier, 16 of what is derived.
+    // The checks of what the claim's way claims: 8 to 10 of a verifier, 16 of what is derived. The claims are words of the table and no functions, as
+    // the derivation asks by the same words whether the guess counts.
     pub fn check_met(self) -> Result<(), Refusal>
         ensures { check_of result ≡ check_met self.entry.derivation.bytes.now (claims self.entry.derivation.bytes.now) }
     {
         match self.derivation.claim.way.row().claims {
-            Claims::Verifier => self.check_conditions(),
-            Claims::Derived(target) => self.check_given(target),
+            Claims::Verifier => Verifier { founded: self }.check_conditions(),
+            Claims::Derived(target) => given::check_given(self.derivation, target),
         }
     }
 }

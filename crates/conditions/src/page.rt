@@ -11,6 +11,7 @@ ghost use Rattle.conditions.specs.Code.{Acceptable as PassedAll, Held};
 ghost use Rattle.submission.specs.Check.{way_of, given_register};
 
 use crate::conditions::Founded;
+use crate::given;
 use program::{Instruction, Program, Test};
 use submission::{Operand, Target};
 use term::rules;
@@ -60,20 +61,20 @@ impl<'a> Acceptable<'a> {
         self.founded.derivation.entries() + 1 + i
     }
 
-    // The register of what gives the term claimed: the named step's, or with 255 the entry's.
+    // The register of what gives the term claimed: the named step's, or where none is named the entry's.
     #[tactic(auto, using(crate::proofs::ProgramValue::given_registers))]
     fn given_register(self, target: Target) -> u8
         requires { Held self.founded.derivation.bytes.now (given_register (target_is target)) }
         ensures { result ≡ named_by self.entry.founded.derivation.bytes.now (given_register (target_is target)) }
     {
-        let named = self.founded.derivation.claim.step;
-        if named == submission::KNOWLEDGE_STEP {
-            return self.founded.entry_given(target).unwrap();
+        let derivation = self.founded.derivation;
+        match derivation.claim.named_step() {
+            Some(step) => self.result_register(step),
+            None => given::entry_given(derivation.claimed(), target).unwrap(),
         }
-        self.result_register(named)
     }
 
-    // The register that a test of the claim names.
+    // The register that a test of the claim names. What a test names stands in the table of ways as data, one row for each way.
     fn named(self, operand: Operand) -> u8
         requires { Held self.founded.derivation.bytes.now (operand_is operand) }
         ensures { result ≡ named_by self.entry.founded.derivation.bytes.now (operand_is operand) }
@@ -108,12 +109,14 @@ impl<'a> Acceptable<'a> {
         requires { program_length (steps self.founded.derivation.bytes.now) ≤ length page.old }
         ensures { page.new ≡ bytes_of (program self.entry.founded.derivation.bytes.now) ++ drop (program_length (steps self.entry.founded.derivation.bytes.now)) page.old }
     {
+        // There is no heap: an array that has room for the most steps.
         let mut instructions = [Instruction {
             rule: 0,
             left: 0,
             right: 0,
         }; 128];
         let count = self.founded.derivation.steps();
+        // The instruction of step i stands at i: a `zip` of the array and the numbers would show this less.
         for i in 0..count {
             instructions[usize::from(i)] = self.instruction(i);
         }

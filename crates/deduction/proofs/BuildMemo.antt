@@ -5,7 +5,7 @@ use mathlib.Core.List.{List}
 use mathlib.Core.Option.{some}
 use Prim.Native.Nat.{ℕ, ◌<◌}
 use native.Mathlib.Omega.{arith}
-use lib.ListN.{length, get_or, set, replicate, length-set, length-replicate}
+use lib.ListN.{length, set, replicate, length-set, length-replicate}
 use Rattle.term.specs.Code.{Below, is_unary}
 use Rattle.submission.specs.declared.Term.{Term}
 use Rattle.submission.specs.Code.{TableRead, IsTerm}
@@ -15,7 +15,7 @@ use Rattle.submission.specs.Record.{terms, kind_at, x_at, y_at, name_at, record_
 use Rattle.std.specs.Prelude.{Option as Maybe, Some, None}
 use Rattle.std.specs.Option.{is_some}
 use Rattle.deduction.specs.Computed.{at, parts_built, built}
-use Rattle.deduction.specs.Code.{reached_of, Reached, parts_of, Memo, Unbuilt}
+use Rattle.deduction.specs.Code.{Marks, mark_of, reached_of, Reached, parts_of, Memo, Unbuilt}
 use Rattle.deduction.proofs.Theory.BuildTestLaws.{built_eq}
 use Rattle.submission.proofs.Theory.ListedTerms.{facts}
 use Rattle.base.proofs.Stores.{each_set, unset}
@@ -65,14 +65,14 @@ no_parts (leaf κ n) e b = refl
 no_parts (branch h i j) e b = absurd (let z : ◌≡◌ {A = ℕ} 0 1 = cc in omega arith)
 
 -- ---- the memo of the build test
-pub memo_none : {s known : List ℕ} → Memo s known (replicate 256 None)
+pub memo_none : {s : List ℕ} {known : Marks} → Memo s known (replicate 256 None)
 memo_none = record {
   long = length-replicate {A = Maybe Bool} 256 None;
   says = λ n b e. absurd (let z : None ≡ Some b = sym (unset None n 256) ∙ e in let o : ◌≡◌ {A = ℕ} 0 1 = cc in omega arith);
 }
 
 -- t is decided now, after others may have been
-pub memo_more : {s known : List ℕ} {l : List (Maybe Bool)} {i t : ℕ} {b : Bool} → Memo s known l → i ≡ t → t < 256 → b ≡ built s (reached_of known) t → Memo s known (set l i (Some b))
+pub memo_more : {s : List ℕ} {known : Marks} {l : List (Maybe Bool)} {i t : ℕ} {b : Bool} → Memo s known l → i ≡ t → t < 256 → b ≡ built s (reached_of known) t → Memo s known (set l i (Some b))
 memo_more {s} {known} {l} {i} {t} {b} o e m f =
     let q : i < length l = omega (arith, o.long) in
     record {
@@ -97,13 +97,13 @@ module _ {s : List ℕ} {t : ℕ} (w : TableRead s) (l : t < terms s) where
     y_falls u h = rw (← h) fall.1
 
 -- ---- the returns of the build test
-module _ {s : List ℕ} (known : List ℕ) {t : ℕ} (w : TableRead s) (l : t < terms s) where
+module _ {s : List ℕ} (known : Marks) {t : ℕ} (w : TableRead s) (l : t < terms s) where
   eq : built s (reached_of known) t ≡ (at (reached_of known) t || parts_built (built s (reached_of known)) (record_at s t))
   eq = built_eq s (reached_of known) (facts w).table.earlier t l
 
-  module _ {i : ℕ} (e : i ≡ t) (d : get_or known i 0 ≡ 0) {p : Maybe (ℕ × ℕ)} (o : p ≡ parts_of (record_at s t)) where
+  module _ {i : ℕ} (e : i ≡ t) (d : is_some (mark_of known i) ≡ false) {p : Maybe (ℕ × ℕ)} (o : p ≡ parts_of (record_at s t)) where
     not_marked : at (reached_of known) t ≡ false
-    not_marked = let z : get_or known t 0 ≡ 0 = rw e at d in at_reached known t ∙ rw z
+    not_marked = at_reached known t ∙ rw e at d
 
     atom_built : p ≡ None → built s (reached_of known) t ≡ false
     atom_built f = eq ∙ rw not_marked (no_parts (record_at s t) (sym o ∙ f) (built s (reached_of known)))
@@ -111,11 +111,11 @@ module _ {s : List ℕ} (known : List ℕ) {t : ℕ} (w : TableRead s) (l : t < 
     compound_built : {x y : ℕ} → p ≡ Some (x, y) → built s (reached_of known) t ≡ (built s (reached_of known) x && built s (reached_of known) y)
     compound_built f = eq ∙ rw not_marked ((both_parts (record_at s t) (sym o ∙ f)).1 (built s (reached_of known)))
 
-module _ {s : List ℕ} (known : List ℕ) {t i : ℕ} (w : TableRead s) (l : t < terms s) (e : i ≡ t) where
+module _ {s : List ℕ} (known : Marks) {t i : ℕ} (w : TableRead s) (l : t < terms s) (e : i ≡ t) where
   pub now_known : Reached known i → true ≡ built s (reached_of known) t
   now_known f = sym (eq known w l ∙ rw ((says_reached known t).1 (rw e at f)))
 
-  module _ (d : get_or known i 0 ≡ 0) {p : Maybe (ℕ × ℕ)} (o : p ≡ parts_of (record_at s t)) where
+  module _ (d : is_some (mark_of known i) ≡ false) {p : Maybe (ℕ × ℕ)} (o : p ≡ parts_of (record_at s t)) where
     pub now_atom : p ≡ None → false ≡ built s (reached_of known) t
     now_atom f = sym (atom_built known w l e d o f)
 
@@ -130,13 +130,13 @@ module _ {s : List ℕ} (known : List ℕ) {t i : ℕ} (w : TableRead s) (l : t 
           k ∙ sym q
 
 -- ---- the returns of `is_missing`
-pub not_missing : {s known : List ℕ} {k : ℕ} → Unbuilt s known k false
+pub not_missing : {s : List ℕ} {known : Marks} {k : ℕ} → Unbuilt s known k false
 not_missing = record { no = λ b. absurd (false≢true b) }
 
 no_part : (p : Maybe (ℕ × ℕ)) → is_some p ≡ false → p ≡ None
 no_part None e = refl
 no_part (Some p) e = absurd (true≢false e)
 
-pub missing : {s known : List ℕ} {k j : ℕ} {p : Maybe (ℕ × ℕ)} {b : Bool} → TableRead s → k < terms s → j ≡ k → get_or known j 0 ≡ 0 →
+pub missing : {s : List ℕ} {known : Marks} {k j : ℕ} {p : Maybe (ℕ × ℕ)} {b : Bool} → TableRead s → k < terms s → j ≡ k → is_some (mark_of known j) ≡ false →
     p ≡ parts_of (record_at s k) → is_some p ≡ not b → Unbuilt s known k b
 missing {s} {known} {p = p} w l e d o f = record { no = λ g. atom_built known w l e d o (no_part p (f ∙ rw g)) }

@@ -6,19 +6,19 @@ use Prim.Native.Nat.{ℕ, ◌<◌}
 use Rattle.submission.specs.Record.{terms}
 use Rattle.deduction.specs.Computed.{built, entry_marks, is_deducible}
 use Rattle.submission.specs.Code.{TableRead}
-use Rattle.deduction.specs.Code.{reached_of, SameMarks}
+use Rattle.deduction.specs.Code.{Marks, reached_of, SameMarks}
 use Rattle.deduction.specs.Saturation.{Exact}
 use Rattle.deduction.proofs.Theory.Exactness.{same_start}
 use Rattle.submission.proofs.Theory.ListedTerms.{facts}
 
 -- ---- the build test over saturated marks
-pub both_deducible : {s known : List ℕ} {start : List Bool} {p q : ℕ} {r : Bool} → Exact s start known → p < terms s → q < terms s →
+pub both_deducible : {s : List ℕ} {known : Marks} {start : List Bool} {p q : ℕ} {r : Bool} → Exact s start known → p < terms s → q < terms s →
     r ≡ (built s (reached_of known) p && built s (reached_of known) q) → r ≡ (is_deducible s start p && is_deducible s start q)
 both_deducible {p = p} {q = q} x b c e = e ∙ ap₂ ◌&&◌ (x.is p b) (x.is q c)
 
 -- ---- from the knowledge
 module _ {s : List ℕ} (start : List Bool) (v : TableRead s) (m : SameMarks s start (entry_marks s)) where
-  pub said_known : {known : List ℕ} {t : ℕ} {b : Bool} → Exact s start known → t < terms s → b ≡ built s (reached_of known) t → b ≡ is_deducible s (entry_marks s) t
+  pub said_known : {known : Marks} {t : ℕ} {b : Bool} → Exact s start known → t < terms s → b ≡ built s (reached_of known) t → b ≡ is_deducible s (entry_marks s) t
   said_known {t = t} x l e = e ∙ x.is t l ∙ same_start (facts v) m t l
 
   pub both_known : {p q : ℕ} {r : Bool} → p < terms s → q < terms s → r ≡ (is_deducible s start p && is_deducible s start q) →

@@ -19,12 +19,12 @@ use Rattle.submission.specs.Record.{terms, record_at, term}
 use Rattle.submission.proofs.Theory.ListedTerms.{facts}
 use Rattle.std.specs.Prelude.{Option as Maybe, Some, None}
 use Rattle.deduction.specs.declared.opening.Opening.{Opening}
-use Rattle.deduction.specs.declared.opening.Opening.TheVariants.{Freely, With, Shut}
+use Rattle.deduction.specs.declared.opening.Opening.TheVariants.{Freely, With}
 use Rattle.deduction.specs.declared.opening.Role.{Role}
 use Rattle.deduction.specs.declared.opening.Role.TheVariants.{Key, First, Second}
 use Rattle.deduction.specs.declared.opening.Clause.{Clause}
 use Rattle.deduction.specs.Computed.{at, parts_built, built, gives, Marked}
-use Rattle.deduction.specs.Code.{reached_of, Reached, parts_of, opening_of, from, key_clause, first_clause, second_clause, clause_of, awaited, linked}
+use Rattle.deduction.specs.Code.{Marks, reached_of, Reached, parts_of, opening_of, from, key_clause, first_clause, second_clause, clause_of, awaited, linked}
 use Rattle.deduction.specs.Saturation.{ComesFrom, from_parts, from_pair, from_key}
 use Rattle.deduction.proofs.Theory.{BuildTestLaws.built_eq, BuildTestLaws.says_built, Exactness.gives_reached}
 use Rattle.deduction.proofs.MarkArrays.{says_reached}
@@ -32,7 +32,7 @@ use Rattle.deduction.proofs.BuildMemo.{same_some, both_parts}
 use Rattle.deduction.proofs.RecordOpening.{opening_gives, with_listed}
 
 -- ---- what a clause is of
-pub key_clause_lem : {o : Opening} {t body key : ℕ} → o ≡ With body key → key_clause t o ≡ from key t body
+pub key_clause_lem : {o : Maybe Opening} {t body key : ℕ} → o ≡ Some (With body key) → key_clause t o ≡ from key t body
 key_clause_lem e = rw e
 
 pub first_clause_lem : {p : Maybe (ℕ × ℕ)} {t x y : ℕ} → p ≡ Some (x, y) → first_clause t p ≡ from x y t
@@ -50,10 +50,10 @@ same_clause e =
 pub no_clause : {A : Type 0} {u x y : ℕ} → None ≡ from u x y → A
 no_clause e = absurd (let z : ◌≡◌ {A = ℕ} 0 1 = cc in omega arith)
 
-key_from : (o : Opening) (t : ℕ) {u x y : ℕ} → key_clause t o ≡ from u x y → (o ≡ With y u) × (x ≡ t)
-key_from (Freely a b) t e = no_clause e
-key_from (With a b) t e = let (f, g, h) = same_clause e in (rw (f, h), sym g)
-key_from Shut t e = no_clause e
+key_from : (o : Maybe Opening) (t : ℕ) {u x y : ℕ} → key_clause t o ≡ from u x y → (o ≡ Some (With y u)) × (x ≡ t)
+key_from (Some (Freely a b)) t e = no_clause e
+key_from (Some (With a b)) t e = let (f, g, h) = same_clause e in (rw (f, h), sym g)
+key_from None t e = no_clause e
 
 first_from_lem : (p : Maybe (ℕ × ℕ)) (t : ℕ) {u x y : ℕ} → first_clause t p ≡ from u x y → (p ≡ Some (u, x)) × (y ≡ t)
 first_from_lem None t e = no_clause e
@@ -87,13 +87,13 @@ module _ {s : List ℕ} {t : ℕ} (v : TableRead s) (l : t < terms s) (m : List 
   marked_built : (n : ℕ) → n < terms s → at m n ≡ true → built s m n ≡ true
   marked_built n b e = built_eq s m (facts v).table.earlier n b ∙ or_left _ _ e
 
-  opening_reached : {body key : ℕ} → opening_of s t ≡ With body key → at m t ≡ true → at m key ≡ true → (body < terms s) × Reach (Marked s m) (term s body)
+  opening_reached : {body key : ℕ} → opening_of s t ≡ Some (With body key) → at m t ≡ true → at m key ≡ true → (body < terms s) × Reach (Marked s m) (term s body)
   opening_reached {body} {key} o e f =
       let (a, b) = with_listed v l o in
       let g : gives s m (record_at s t) body ≡ true = opening_gives v l m body ∙ rw o (and_both _ _ (eq-eqb body body refl) (marked_built key b f)) in
       gives_reached (facts v) m (λ n c p. known (n, c, (p, refl))) t body l (known (t, l, (e, refl))) g
 
-  freely_reached : {x y : ℕ} → opening_of s t ≡ Freely x y → at m t ≡ true → Reach (Marked s m) (term s x) × Reach (Marked s m) (term s y)
+  freely_reached : {x y : ℕ} → opening_of s t ≡ Some (Freely x y) → at m t ≡ true → Reach (Marked s m) (term s x) × Reach (Marked s m) (term s y)
   freely_reached {x} {y} o e =
       let from : (n : ℕ) → gives s m (record_at s t) n ≡ true → Reach (Marked s m) (term s n) = λ n g.
       let w : (n < terms s) × Reach (Marked s m) (term s n) = gives_reached (facts v) m (λ k c p. known (k, c, (p, refl))) t n l (known (t, l, (e, refl))) g in w.1 in (
@@ -119,7 +119,7 @@ module _ {s : List ℕ} {u n : ℕ} (v : TableRead s) (l : u < terms s) where
   comes_by f (from_key k a o b) = from_key k (f u l a) o (f k (with_listed v l o).1 b)
 
   -- it is deducible
-  pub comes_deducible : (m : List ℕ) → ComesFrom s (Reached m) u n → Deducible (Marked s (reached_of m)) (term s n)
+  pub comes_deducible : (m : Marks) → ComesFrom s (Reached m) u n → Deducible (Marked s (reached_of m)) (term s n)
   comes_deducible m (from_parts x y e p a b) =
       (reach_iff _ _).0 (parts_reached v (rw e at l) (reached_of m) p ((says_reached m x).1 a) ((says_reached m y).1 b)).1
   comes_deducible m (from_pair x y a o i) =
@@ -138,21 +138,21 @@ clause_comes {s} {t} {Had} Second {u} {x} {y} e a b =
     from_parts x u (sym f) (ap (λ k. parts_of (record_at s k)) f ∙ p) b a
 
 -- ---- the chains of the records that wait for a term
-pub linked_start : (s : List ℕ) (role : Role) {b l : List ℕ} → b ≡ replicate 256 255 → l ≡ replicate 256 255 → Chaining (linked s role) 0 b l
+pub linked_start : (s : List ℕ) (role : Role) {b l : List (Maybe ℕ)} → b ≡ replicate 256 None → l ≡ replicate 256 None → Chaining (linked s role) 0 b l
 linked_start s role e f = rw (e, f) chaining_none
 
-module _ {s : List ℕ} {i n : ℕ} (v : TableRead s) (d : i < n) (k : n ≡ terms s) (role : Role) {o : Maybe Clause} (e : o ≡ clause_of s role i) {b l : List ℕ}
+module _ {s : List ℕ} {i n : ℕ} (v : TableRead s) (d : i < n) (k : n ≡ terms s) (role : Role) {o : Maybe Clause} (e : o ≡ clause_of s role i) {b l : List (Maybe ℕ)}
     (p : Chaining (linked s role) i b l) where
   pub linked_apart : o ≡ None → Chaining (linked s role) (i + 1) b l
   unfolding linked
   linked_apart f = chaining_apart p (rw (← e, f) (omega arith))
 
-  pub linked_more : {c : Clause} {b' l' : List ℕ} → o ≡ Some c → b' ≡ set b i (get_or l c.term 0) → l' ≡ set l c.term i → Chaining (linked s role) (i + 1) b' l'
+  pub linked_more : {c : Clause} {b' l' : List (Maybe ℕ)} → o ≡ Some c → b' ≡ set b i (get_or l c.term None) → l' ≡ set l c.term (Some i) → Chaining (linked s role) (i + 1) b' l'
   unfolding linked
   linked_more {c} f g h =
       let f' : clause_of s role i ≡ from c.term c.other c.result = sym e ∙ f in
       let (a, _, _) = clause_listed v (omega arith) role f' in
       rw (g, h) (chaining_more p (omega (arith, (facts v).terms_most)) (ap awaited f') refl (omega (arith, (facts v).terms_most)))
 
-pub linked_end : (s : List ℕ) (role : Role) {b l : List ℕ} {i n : ℕ} → Chaining (linked s role) i b l → i ≤ terms s → n ≤ i → n ≡ terms s → Chaining (linked s role) (terms s) b l
+pub linked_end : (s : List ℕ) (role : Role) {b l : List (Maybe ℕ)} {i n : ℕ} → Chaining (linked s role) i b l → i ≤ terms s → n ≤ i → n ≡ terms s → Chaining (linked s role) (terms s) b l
 linked_end s role {b} {l} p a c e = subst (λ k. Chaining (linked s role) k b l) (omega arith) p

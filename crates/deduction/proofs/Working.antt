@@ -1,21 +1,20 @@
 -- The working: the loops of `enter`, `has_compound_key` and `build_all`, and that the marks that are left are exact.
 use mathlib.Core.Path.{◌≡◌, refl, sym, ap, ◌∙◌}
 use mathlib.Core.Logic.{◌↔◌, inl, ⊎_elim}
-use mathlib.Core.Bool.{Bool, true, false, not, cond, false≢true, true≢false}
+use mathlib.Core.Bool.{Bool, true, false, not, false≢true, true≢false}
 use mathlib.Core.List.{List, []}
 use mathlib.Core.Option.{some}
 use Prim.Native.Nat.{ℕ, zero, suc, ◌+◌, ◌≤◌, ◌<◌}
 use native.Mathlib.Omega.{arith}
+use Rattle.std.specs.Option.{option_map}
 use lib.Dec.{eqb}
-use lib.ListN.{get_or, replicate}
+use lib.ListN.{replicate}
 use borrow.Author.Count.{below_more}
-use borrow.Author.Tests.{eq-eqb, ne_eqb, eqb-false}
+use borrow.Author.Tests.{eq-eqb, ne_eqb}
 use Rattle.base.specs.Computed.{any}
 use Rattle.base.proofs.BoolLaws.{and_both, or_left}
 use Rattle.base.proofs.Order.{lt_or_ge}
-use Rattle.base.proofs.First.{Passed}
 use Rattle.base.proofs.Says.{says_and, says_or, says_true, says_eqb, any_false, not_is_true, not_not_false}
-use Rattle.base.proofs.Scan.{true_any, false_any}
 use Rattle.base.proofs.Stores.{unset}
 use Rattle.term.specs.Step.{Deducible}
 use Rattle.term.specs.Term.{Term as TermTree, Kind, symmetric, asymmetric, pair, hash, encryption, Shape, atomic, compound, is_key_for, Rec, leaf, branch}
@@ -34,16 +33,18 @@ use Rattle.submission.specs.Check.{Shaped}
 use Rattle.submission.specs.Code.{TableRead, IsTerm}
 use Rattle.submission.specs.{Record.terms, Record.kind_at, Record.x_at, Record.y_at, Record.name_at, Record.record_at, Record.term}
 use Rattle.submission.proofs.Theory.ListedTerms.{facts}
-use Rattle.inverse.specs.Computed.{inverse_of}
+use Rattle.inverse.specs.Code.{found_inverse}
 use Rattle.std.specs.Prelude.{Option as Maybe, Some, None}
+use Rattle.deduction.specs.declared.worklist.Origin.{Origin}
+use Rattle.deduction.specs.declared.worklist.Origin.TheVariants.{Start, Record}
 use Rattle.deduction.specs.declared.opening.Opening.{Opening}
-use Rattle.deduction.specs.declared.opening.Opening.TheVariants.{Freely, With, Shut}
+use Rattle.deduction.specs.declared.opening.Opening.TheVariants.{Freely, With}
 use Rattle.deduction.specs.Computed.{at, parts_built, built, gives, Marked}
-use Rattle.deduction.specs.Code.{reached_of, Reached, Room, parts_of, opening_of, has_hash_key}
+use Rattle.deduction.specs.Code.{Marks, mark_of, reached_of, Reached, Room, parts_of, opening_of, has_hash_key}
 use Rattle.deduction.specs.Saturation.{start_mark, from_parts, Pushed, PushedWith, Queue, Grown, Entered, OpenTo, ComposedTo, Worked, BuiltOne, BuildClosed, BuiltAll, AllReached}
 use Rattle.deduction.proofs.Theory.{BuildTestLaws.built_eq, Exactness.built_is_deducible, Exactness.deducible_from_iff, Exactness.deducible_trans}
 use Rattle.deduction.proofs.BuildMemo.{shape_record, same_parts, both_parts}
-use Rattle.deduction.proofs.MarkArrays.{says_reached}
+use Rattle.deduction.proofs.MarkArrays.{says_reached, not_reached, started}
 use Rattle.deduction.proofs.OpeningKeys.{the_inverse}
 use Rattle.deduction.proofs.RecordOpening.{given, opening_gives, with_listed}
 use Rattle.deduction.proofs.Clauses.{parts_listed}
@@ -86,25 +87,17 @@ module _ {s : List ℕ} {t : ℕ} {a : Term} (i : IsTerm s t a) where
     unfolding has_hash_key
     under_told {b} n g j h k = rw (← i.kind, ← told_enc a.kind m e, (not_not_false _).0 (sym f ∙ g), ← i.y, ← j.kind, ← told_hash b.kind n h, k)
 
--- the loop of `has_compound_key`
-module _ {p : ℕ → Bool} {n i : ℕ} (N : ℕ) (e : n ≡ N) (q : Passed p n i) where
-  pub has_one_lem : i < n → p i ≡ true → true ≡ any p N
-  has_one_lem b t = rw (← e) (true_any q b t)
-
-  pub has_none : n ≤ i → false ≡ any p N
-  has_none b = rw (← e) (false_any q b)
-
 -- ---- the terms that `start` marks
-pub record Entering (s : List ℕ) (start : List Bool) (i : ℕ) (m o : List ℕ) (end : ℕ) : Type 0 where
+pub record Entering (s : List ℕ) (start : List Bool) (i : ℕ) (m : Marks) (o : List ℕ) (end : ℕ) : Type 0 where
   pub within : i ≤ terms s
   pub queue : Queue s m o end
-  pub entered : (k : ℕ) → k < i → at start k ≡ true → get_or m k 0 ≡ start_mark
+  pub entered : (k : ℕ) → k < i → at start k ≡ true → mark_of m k ≡ start_mark
   pub only : (k : ℕ) → Reached m k → at start k ≡ true
-  pub all : (k : ℕ) → Reached m k → get_or m k 0 ≡ start_mark
+  pub all : (k : ℕ) → Reached m k → mark_of m k ≡ start_mark
 
-pub entering_none : {s m o : List ℕ} {end : ℕ} (start : List Bool) → m ≡ replicate 256 0 → end ≡ 0 → Room m o end → Entering s start 0 m o end
+pub entering_none : {s : List ℕ} {m : Marks} {o : List ℕ} {end : ℕ} (start : List Bool) → m ≡ replicate 256 None → end ≡ 0 → Room m o end → Entering s start 0 m o end
 entering_none {m = m} start e f r =
-    let none : (k : ℕ) → Reached m k → ⊥ = λ k a. a (rw e (unset 0 k 256)) in
+    let none : (k : ℕ) → Reached m k → ⊥ = λ k a. not_reached (mark_of m k) (rw (e, unset {A = Maybe Origin} None k 256)) a in
     record {
       within = omega arith;
       queue = record {
@@ -120,29 +113,28 @@ entering_none {m = m} start e f r =
       all = λ k a. absurd (none k a);
     }
 
-module _ {s m o : List ℕ} {start : List Bool} {i n end : ℕ} (p : Entering s start i m o end) where
+module _ {s : List ℕ} {m : Marks} {o : List ℕ} {start : List Bool} {i n end : ℕ} (p : Entering s start i m o end) where
   module _ {w : ℕ} (b : i < n) (e : n ≡ terms s) (f : w ≡ i) where
     pub entering_skip : (at start w ≡ false) → Entering s start (i + 1) m o end
     entering_skip d = record {
       within = omega arith;
       queue = p.queue;
-      entered = below_more (λ k. at start k ≡ true → get_or m k 0 ≡ start_mark) i p.entered (λ a. absurd (false≢true (sym d ∙ rw f a)));
+      entered = below_more (λ k. at start k ≡ true → mark_of m k ≡ start_mark) i p.entered (λ a. absurd (false≢true (sym d ∙ rw f a)));
       only = p.only;
       all = p.all;
     }
 
-    pub entering_more : {m' o' : List ℕ} {r : ℕ} → TableRead s → at start w ≡ true → Pushed i 255 m o end m' o' r → Entering s start (i + 1) m' o' r
+    pub entering_more : {m' : Marks} {o' : List ℕ} {r : ℕ} → TableRead s → at start w ≡ true → Pushed i Start m o end m' o' r → Entering s start (i + 1) m' o' r
     entering_more {m'} v a q =
         let l : i < terms s = omega arith in
-        let f₀ : ◌≡◌ {A = ℕ} 255 0 → ⊥ = λ z. omega arith in
-        let kept = pushed_keeps v p.queue l f₀ q in
-        let only = pushed_only v p.queue l f₀ q in
-        let here : get_or m' i 0 ≡ start_mark = pushed_as v p.queue l f₀ q (p.all i) in
+        let kept = pushed_keeps _ v p.queue l q in
+        let only = pushed_only _ v p.queue l q in
+        let here : mark_of m' i ≡ start_mark = pushed_as _ v p.queue l q (p.all i) in
         record {
           within = omega arith;
-          queue = pushed_queue v p.queue l f₀ q (inl refl);
-          entered = below_more (λ k. at start k ≡ true → get_or m' k 0 ≡ start_mark) i
-              (λ k c g. let x = p.entered k c g in kept k (λ z. omega arith) ∙ x) (λ _. here);
+          queue = pushed_queue _ v p.queue l q (inl refl);
+          entered = below_more (λ k. at start k ≡ true → mark_of m' k ≡ start_mark) i
+              (λ k c g. let x = p.entered k c g in kept k (started x) ∙ x) (λ _. here);
           only = λ k g. ⊎_elim (p.only k) (λ h. rw h (rw f at a)) (only k g);
           all = λ k g. ⊎_elim (λ x. kept k x ∙ p.all k x) (λ h. rw h here) (only k g);
         }
@@ -152,25 +144,25 @@ module _ {s m o : List ℕ} {start : List Bool} {i n end : ℕ} (p : Entering s 
     entering_all = record { holds = λ k c a. p.entered k (omega (arith, p.within)) a; only = p.only }
 
 -- ---- the key of an opening
-not_shut : {body key : ℕ} → Shut ≡ With body key → ⊥
-not_shut e = let z : ◌≡◌ {A = ℕ} 0 1 = cc in omega arith
+not_none : {body key : ℕ} → None ≡ Some (With body key) → ⊥
+not_none e = let z : ◌≡◌ {A = ℕ} 0 1 = cc in omega arith
 
-not_freely : {x y body key : ℕ} → Freely x y ≡ With body key → ⊥
+not_freely : {x y body key : ℕ} → Some (Freely x y) ≡ Some (With body key) → ⊥
 not_freely e = let z : ◌≡◌ {A = ℕ} 0 1 = cc in omega arith
 
-by_key : {x k body key : ℕ} → With x k ≡ With body key → k ≡ key
+by_key : {x k body key : ℕ} → Some (With x k) ≡ Some (With body key) → k ≡ key
 by_key e = cc
 
-by_inverse : (b : Bool) (x : ℕ) {k body key : ℕ} → eqb k 255 ≡ b → cond b Shut (With x k) ≡ With body key → (k ≡ 255 → ⊥) × (k ≡ key)
-by_inverse true x e f = absurd (not_shut f)
-by_inverse false x e f = (eqb-false _ 255 e, by_key f)
+pub by_inverse : (o : Maybe ℕ) (x : ℕ) {body key : ℕ} → option_map (With x) o ≡ Some (With body key) → (o ≡ Some key) × (x ≡ body)
+by_inverse None x f = absurd (not_none f)
+by_inverse (Some k) x {body} {key} f = let e : k ≡ key = by_key f in (ap Some e, cc)
 
 -- ---- a key that can be built is marked
-pub record KeysMarked (s m : List ℕ) : Type 0 where
-  pub is : (t body key : ℕ) → t < terms s → opening_of s t ≡ With body key → built s (reached_of m) key ≡ true → Reached m key
+pub record KeysMarked (s : List ℕ) (m : Marks) : Type 0 where
+  pub is : (t body key : ℕ) → t < terms s → opening_of s t ≡ Some (With body key) → built s (reached_of m) key ≡ true → Reached m key
 
 -- where a term is marked whose parts are, what can be built is marked
-module _ {s m' : List ℕ} (m : List ℕ) (v : TableRead s) (keeps : (n : ℕ) → n < terms s → Reached m n → Reached m' n) (c : BuildClosed s m' (terms s)) where
+module _ {s : List ℕ} {m' : Marks} (m : Marks) (v : TableRead s) (keeps : (n : ℕ) → n < terms s → Reached m n → Reached m' n) (c : BuildClosed s m' (terms s)) where
   within_marked : (fuel n : ℕ) → n < fuel → n < terms s → built s (reached_of m) n ≡ true → Reached m' n
   within_marked zero n b l f = absurd (omega arith)
   within_marked (suc fuel) n b l f =
@@ -188,7 +180,7 @@ module _ {s m' : List ℕ} (m : List ℕ) (v : TableRead s) (keeps : (n : ℕ) �
   built_marked : (n : ℕ) → n < terms s → built s (reached_of m) n ≡ true → Reached m' n
   built_marked n l = within_marked (suc n) n (omega arith) l
 
-pub composed_keys : {s m o : List ℕ} {e : ℕ} → TableRead s → Queue s m o e → ComposedTo s m o e → KeysMarked s m
+pub composed_keys : {s : List ℕ} {m : Marks} {o : List ℕ} {e : ℕ} → TableRead s → Queue s m o e → ComposedTo s m o e → KeysMarked s m
 composed_keys {s} {m} v q c = record {
   is = λ t body key l f.
       built_marked {m' = m} m v (λ n b a. a)
@@ -207,36 +199,35 @@ module _ {s : List ℕ} (v : TableRead s) where
       go (compound (encryption symmetric)) e = absurd (false≢true (rw e at f))
       go (compound (encryption asymmetric)) e = absurd (false≢true (rw e at f))
 
-  inverse_leaf : (k : ℕ) → k < terms s → (inverse_of s k ≡ 255 → ⊥) → (κ : Kind) × (n : ℕ) × (record_at s (inverse_of s k) ≡ leaf κ n)
-  inverse_leaf k l d =
-      let j = inverse_of s k in
+  inverse_leaf : (k j : ℕ) → k < terms s → found_inverse s k ≡ Some j → (κ : Kind) × (n : ℕ) × (record_at s j ≡ leaf κ n)
+  inverse_leaf k j l d =
       let (b, a) = the_inverse v l d in
       let (κ, n, f) = key_is_atom (term s j) (match_sym asymmetric (term s k) (term s j) (((facts v).inverse_iff k j l b).0 a)).0 in
       (κ, n, leaf_of (facts v).table j b f)
 
   -- the key that opens record t
-  key_leaf : (t : ℕ) {body key : ℕ} → t < terms s → has_hash_key s t ≡ false → opening_of s t ≡ With body key → (κ : Kind) × (n : ℕ) × (record_at s key ≡ leaf κ n)
+  key_leaf : (t : ℕ) {body key : ℕ} → t < terms s → has_hash_key s t ≡ false → opening_of s t ≡ Some (With body key) → (κ : Kind) × (n : ℕ) × (record_at s key ≡ leaf κ n)
   unfolding has_hash_key
   key_leaf t {body} {key} l h f = go ((facts v).good t l).shape ((facts v).good t l).has ((facts v).good t l).fits
     where
       go : (z : Shape) → shape_of (kind_at s t) ≡ some z → Shaped s t z → (κ : Kind) × (n : ℕ) × (record_at s key ≡ leaf κ n)
-      go (atomic κ) e w = absurd (not_shut (rw (shape_record s t (atomic κ) e) at f))
-      go (compound hash) e w = absurd (not_shut (rw (shape_record s t (compound hash) e) at f))
+      go (atomic κ) e w = absurd (not_none (rw (shape_record s t (atomic κ) e) at f))
+      go (compound hash) e w = absurd (not_none (rw (shape_record s t (compound hash) e) at f))
       go (compound pair) e w = absurd (not_freely (rw (shape_record s t (compound pair) e) at f))
       go (compound (encryption symmetric)) e (_, (b, i)) =
           let k : y_at s t ≡ key = by_key (rw (shape_record s t (compound (encryption symmetric)) e) at f) in
           let five : eqb (kind_at s t) 5 ≡ true = eq-eqb _ 5 (shape_kind _ _ e) in
           rw (← k) (symmetric_leaf (y_at s t) (omega arith) i (λ c. true≢false (sym (and_both _ _ five (eq-eqb _ 7 c)) ∙ h)))
       go (compound (encryption asymmetric)) e (_, (b, i)) =
-          let (c, k) = by_inverse (eqb (inverse_of s (y_at s t)) 255) (x_at s t) refl (rw (shape_record s t (compound (encryption asymmetric)) e) at f) in
-          rw (← k) (inverse_leaf (y_at s t) (omega arith) c)
+          let (c, _) = by_inverse (found_inverse s (y_at s t)) (x_at s t) (rw (shape_record s t (compound (encryption asymmetric)) e) at f) in
+          inverse_leaf (y_at s t) key (omega arith) c
 
-  leaf_marked : (m : List ℕ) {k n : ℕ} {κ : Kind} → k < terms s → record_at s k ≡ leaf κ n → built s (reached_of m) k ≡ true → Reached m k
+  leaf_marked : (m : Marks) {k n : ℕ} {κ : Kind} → k < terms s → record_at s k ≡ leaf κ n → built s (reached_of m) k ≡ true → Reached m k
   leaf_marked m {k} l r f =
       ⊎_elim (λ a. (says_reached m k).0 a) (λ a. absurd (false≢true (rw r at a)))
       ((says_or (at (reached_of m) k) (parts_built (built s (reached_of m)) (record_at s k)) (says_true _) (says_true _)).0 (sym (built_eq s (reached_of m) (facts v).table.earlier k l) ∙ f))
 
-  pub atom_keys : (m : List ℕ) → any (has_hash_key s) (terms s) ≡ false → KeysMarked s m
+  pub atom_keys : (m : Marks) → any (has_hash_key s) (terms s) ≡ false → KeysMarked s m
   atom_keys m h = record {
     is = λ t body key l f g.
         let (κ, n, r) = key_leaf t l ((any_false (has_hash_key s) (terms s)).0 h t l) f in
@@ -244,11 +235,11 @@ module _ {s : List ℕ} (v : TableRead s) where
   }
 
 -- ---- the marks that are left
-module _ {s m₀ o₀ m o : List ℕ} {start : List Bool} {e₀ e : ℕ} (v : TableRead s) (w : Entered s start m₀) (g₀ : Grown s m₀ o₀ e₀ m o e) where
-  pub left_start : (n : ℕ) → n < terms s → (get_or m n 0 ≡ start_mark) ↔ (at start n ≡ true)
+module _ {s : List ℕ} {m₀ : Marks} {o₀ : List ℕ} {m : Marks} {o : List ℕ} {start : List Bool} {e₀ e : ℕ} (v : TableRead s) (w : Entered s start m₀) (g₀ : Grown s m₀ o₀ e₀ m o e) where
+  pub left_start : (n : ℕ) → n < terms s → (mark_of m n ≡ start_mark) ↔ (at start n ≡ true)
   left_start n l = (
-    λ f. let x = g₀.fewer n f in w.only n (λ z. omega arith),
-    λ f. let x = w.holds n l f in g₀.kept n (λ z. omega arith) ∙ x,
+    λ f. w.only n (started (g₀.fewer n f)),
+    λ f. let x = w.holds n l f in g₀.kept n (started x) ∙ x,
   )
 
   left_reached : (n : ℕ) → n < terms s → Reached m n → Deducible (Marked s start) (term s n)
@@ -262,21 +253,21 @@ module _ {s m₀ o₀ m o : List ℕ} {start : List Bool} {e₀ e : ℕ} (v : Ta
         q : Queue s m o e
         q = g₀.queue
 
-        go : (z : Opening) → opening_of s i ≡ z → given s (reached_of m) z n ≡ true → Reached m n
-        go (Freely x y) r h =
+        go : (z : Maybe Opening) → opening_of s i ≡ z → given s (reached_of m) z n ≡ true → Reached m n
+        go (Some (Freely x y)) r h =
             let (mx, my) = a.freely i x y (q.listed i l f) r in
             ⊎_elim (λ c. rw c mx) (λ c. rw c my) ((says_or (eqb n x) (eqb n y) (says_eqb n x) (says_eqb n y)).0 h)
-        go (With body key) r h =
+        go (Some (With body key)) r h =
             let (c, b) = (says_and (eqb n body) (built s (reached_of m) key) (says_eqb n body) (says_true _)).0 h in
             rw c (a.opened i body key (q.listed i l f) (q.listed key (with_listed v l r).1 (k.is i body key l r b)) r)
-        go Shut r h = absurd (false≢true h)
+        go None r h = absurd (false≢true h)
 
     pub left_worked : Worked s start m o e
     left_worked = record {
       queue = g₀.queue;
       exact = record {
         is = built_is_deducible (facts v) start (reached_of m) (record {
-          holds = λ n b f. let x = (left_start n b).1 f in (says_reached m n).1 (λ z. omega arith);
+          holds = λ n b f. (says_reached m n).1 (started ((left_start n b).1 f));
           reached = λ n b f. (reach_iff (Marked s start) (term s n)).1 (left_reached n b ((says_reached m n).0 f));
           closed = λ i n b c f g. (says_reached m n).1 (closed i n b ((says_reached m i).0 f) g);
         });
@@ -285,19 +276,19 @@ module _ {s m₀ o₀ m o : List ℕ} {start : List Bool} {e₀ e : ℕ} (v : Ta
     }
 
 -- ---- the returns of `saturate`
-pub open_none : {s m o : List ℕ} → OpenTo s m o 0
+pub open_none : {s : List ℕ} {m : Marks} {o : List ℕ} → OpenTo s m o 0
 open_none = record { freely = λ t x y (k, b, _). absurd (omega arith); opened = λ t body key (k, b, _). absurd (omega arith) }
 
-module _ {s m o m₁ o₁ : List ℕ} {start : List Bool} {e e₁ : ℕ} (v : TableRead s) (w : Entered s start m) (g : Grown s m o e m₁ o₁ e₁) where
+module _ {s : List ℕ} {m : Marks} {o : List ℕ} {m₁ : Marks} {o₁ : List ℕ} {start : List Bool} {e e₁ : ℕ} (v : TableRead s) (w : Entered s start m) (g : Grown s m o e m₁ o₁ e₁) where
   -- no compound term is a key
-  pub saturated_atoms : {b : Bool} → OpenTo s m₁ o₁ e₁ → b ≡ any (has_hash_key s) (terms s) → not b ≡ true → Worked s start m₁ o₁ e₁
-  saturated_atoms a h f = left_worked v w g a (atom_keys v m₁ (sym h ∙ (not_is_true _).0 f))
+  pub saturated_atoms : {b : Bool} → OpenTo s m₁ o₁ e₁ → b ≡ any (has_hash_key s) (terms s) → b ≡ false → Worked s start m₁ o₁ e₁
+  saturated_atoms a h f = left_worked v w g a (atom_keys v m₁ (sym h ∙ f))
 
-  pub saturated_composed : {m₂ o₂ : List ℕ} {e₂ : ℕ} → Grown s m₁ o₁ e₁ m₂ o₂ e₂ → OpenTo s m₂ o₂ e₂ → ComposedTo s m₂ o₂ e₂ → Worked s start m₂ o₂ e₂
+  pub saturated_composed : {m₂ : Marks} {o₂ : List ℕ} {e₂ : ℕ} → Grown s m₁ o₁ e₁ m₂ o₂ e₂ → OpenTo s m₂ o₂ e₂ → ComposedTo s m₂ o₂ e₂ → Worked s start m₂ o₂ e₂
   saturated_composed g₂ a c = left_worked v w (grown_trans g g₂) a (composed_keys v g₂.queue c)
 
 -- ---- every term that can be built
-module _ {s m o : List ℕ} {t end : ℕ} {p : Maybe (ℕ × ℕ)} (v : TableRead s) (l : t < terms s) (c : p ≡ parts_of (record_at s t)) (q : Queue s m o end) where
+module _ {s : List ℕ} {m : Marks} {o : List ℕ} {t end : ℕ} {p : Maybe (ℕ × ℕ)} (v : TableRead s) (l : t < terms s) (c : p ≡ parts_of (record_at s t)) (q : Queue s m o end) where
   pub built_atom : p ≡ None → BuiltOne s t m o end m o end
   built_atom e = record {
     grown = grown_none q;
@@ -309,31 +300,24 @@ module _ {s m o : List ℕ} {t end : ℕ} {p : Maybe (ℕ × ℕ)} (v : TableRea
     the_parts : (x' y' : ℕ) → parts_of (record_at s t) ≡ Some (x', y') → (x ≡ x') × (y ≡ y')
     the_parts x' y' g = same_parts (sym e ∙ c ∙ g)
 
-    pub built_not : get_or m w 0 ≡ 0 → BuiltOne s t m o end m o end
-    built_not d = record {
-      grown = grown_none q;
-      gave = λ x' y' g a. absurd (a (rw (← (the_parts x' y' g).0, ← f) d));
-      only = λ n a. inl a;
-    }
-
-    pub built_now : {m' o' : List ℕ} {r : ℕ} → Reached m w → PushedWith t (t + 1) y m o end m' o' r → BuiltOne s t m o end m' o' r
+    pub built_now : {m' : Marks} {o' : List ℕ} {r : ℕ} → Reached m w → PushedWith t (Record t) y m o end m' o' r → BuiltOne s t m o end m' o' r
     built_now d i = record {
       grown = with_grown y t v q l i l (λ a. from_parts x y refl (sym c ∙ e) (rw f at d) a);
       gave = λ x' y' g a b. with_here y t v q l i (rw (← (the_parts x' y' g).1) at b);
-      only = λ n a. ⊎_elim (λ (_, j). pushed_only v q l (λ z. omega arith) j n a) (λ (_, j, _, _). inl (rw j at a)) i;
+      only = λ n a. ⊎_elim (λ (_, j). pushed_only _ v q l j n a) (λ (_, j, _, _). inl (rw j at a)) i;
     }
 
 -- the loop of `build_all`
-pub record Building (s m₀ o₀ : List ℕ) (e₀ : ℕ) (m o : List ℕ) (e i : ℕ) : Type 0 where
+pub record Building (s : List ℕ) (m₀ : Marks) (o₀ : List ℕ) (e₀ : ℕ) (m : Marks) (o : List ℕ) (e i : ℕ) : Type 0 where
   pub within : i ≤ terms s
   pub grown : Grown s m₀ o₀ e₀ m o e
   pub closed : BuildClosed s m i
 
-pub building_none : {s m o : List ℕ} {e : ℕ} → Queue s m o e → Building s m o e m o e 0
+pub building_none : {s : List ℕ} {m : Marks} {o : List ℕ} {e : ℕ} → Queue s m o e → Building s m o e m o e 0
 building_none q = record { within = omega arith; grown = grown_none q; closed = record { is = λ t x y b. absurd (omega arith) } }
 
-module _ {s m₀ o₀ m o : List ℕ} {e₀ e i n : ℕ} (p : Building s m₀ o₀ e₀ m o e i) (k : n ≡ terms s) where
-  pub building_more : {m' o' : List ℕ} {e' : ℕ} → i < n → TableRead s → BuiltOne s i m o e m' o' e' → Building s m₀ o₀ e₀ m' o' e' (i + 1)
+module _ {s : List ℕ} {m₀ : Marks} {o₀ : List ℕ} {m : Marks} {o : List ℕ} {e₀ e i n : ℕ} (p : Building s m₀ o₀ e₀ m o e i) (k : n ≡ terms s) where
+  pub building_more : {m' : Marks} {o' : List ℕ} {e' : ℕ} → i < n → TableRead s → BuiltOne s i m o e m' o' e' → Building s m₀ o₀ e₀ m' o' e' (i + 1)
   building_more {m'} b v u = record {
     within = omega arith;
     grown = grown_trans p.grown u.grown;
@@ -355,7 +339,7 @@ module _ {s m₀ o₀ m o : List ℕ} {e₀ e i n : ℕ} (p : Building s m₀ o�
   building_end b = let z : i ≡ terms s = omega (arith, p.within) in record { grown = p.grown; closed = rw z at p.closed }
 
 -- ---- the returns of `reach_all`
-pub all_reached : {s m o m' o' : List ℕ} {start : List Bool} {e e' : ℕ} → TableRead s → Worked s start m o e → BuiltAll s m o e m' o' e' → AllReached s start m' o' e'
+pub all_reached : {s : List ℕ} {m : Marks} {o : List ℕ} {m' : Marks} {o' : List ℕ} {start : List Bool} {e e' : ℕ} → TableRead s → Worked s start m o e → BuiltAll s m o e m' o' e' → AllReached s start m' o' e'
 all_reached {s} {m} {m' = m'} {start} v w b = record {
   queue = b.grown.queue;
   exact = λ n l. (
@@ -364,7 +348,7 @@ all_reached {s} {m} {m' = m'} {start} v w b = record {
   );
   from_start = λ n l. (
     λ f. (w.from_start n l).0 (b.grown.fewer n f),
-    λ f. let x = (w.from_start n l).1 f in b.grown.kept n (λ z. omega arith) ∙ x,
+    λ f. let x = (w.from_start n l).1 f in b.grown.kept n (started x) ∙ x,
   );
 }
   where

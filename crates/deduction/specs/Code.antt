@@ -1,27 +1,35 @@
 -- What the code's records and arrays mean.
-use mathlib.Core.{Path.◌≡◌, Bool.Bool, Bool.true, Bool.false, Bool.◌&&◌, Bool.not, Bool.cond, List.List, List.[], List.◌∷◌, List.map}
-use Rattle.std.specs.Prelude.{ℕ, suc, ◌+◌, ◌≤◌, ◌<◌, Option, Some, None}
+use mathlib.Core.{Path.◌≡◌, Bool.Bool, Bool.true, Bool.false, Bool.◌&&◌, Bool.cond, List.List, List.[], List.◌∷◌, List.map}
+use Rattle.std.specs.Prelude.{ℕ, suc, ◌+◌, ◌≤◌, ◌<◌, Option, Some, None, is_some}
+use Rattle.std.specs.Option.{option_map}
 use lib.{Dec.eqb, ListN.length, ListN.get_or}
 use Rattle.term.specs.{Term.symmetric, Term.asymmetric, Term.pair, Term.hash, Term.encryption, Term.make, Term.part, Term.decrypt, Term.Rec, Term.leaf, Term.branch}
-use Rattle.inverse.specs.Computed.{inverse_of}
+use Rattle.inverse.specs.Code.{found_inverse}
 use Rattle.submission.specs.{Record.terms, Record.record_at, Record.kind_at, Record.y_at}
 use Rattle.deduction.specs.declared.opening.Opening.{Opening}
-use Rattle.deduction.specs.declared.opening.Opening.TheVariants.{Freely, With, Shut}
+use Rattle.deduction.specs.declared.opening.Opening.TheVariants.{Freely, With}
 use Rattle.deduction.specs.declared.opening.Role.{Role}
 use Rattle.deduction.specs.declared.opening.Role.TheVariants.{Key, First, Second}
 use Rattle.deduction.specs.declared.opening.Clause.{Clause}
+use Rattle.deduction.specs.declared.worklist.Origin.{Origin}
 use Rattle.deduction.specs.Computed.{at, built}
 
 -- the same terms are marked
 pub record SameMarks (s : List ℕ) (m m' : List Bool) : Type 0 where
   pub same : (n : ℕ) → n < terms s → at m n ≡ at m' n
 
--- the marks of the working: that of a term that was reached says how, and is not 0
-abbrev pub reached_of : List ℕ → List Bool
-reached_of l = map (λ v. not (eqb v 0)) l
+-- the marks of the working: that of a term that was reached says how, and a term that was not has none
+abbrev pub Marks : Type 0
+Marks = List (Option Origin)
 
-abbrev pub Reached : List ℕ → ℕ → Type 0
-Reached l n = get_or l n 0 ≡ 0 → ⊥
+abbrev pub mark_of : Marks → ℕ → Option Origin
+mark_of l n = get_or l n None
+
+abbrev pub reached_of : Marks → List Bool
+reached_of l = map (λ v. is_some v) l
+
+abbrev pub Reached : Marks → ℕ → Type 0
+Reached l n = is_some (mark_of l n) ≡ true
 
 -- the parts that a record is built from
 abbrev pub parts_of : Rec → Option (ℕ × ℕ)
@@ -30,30 +38,26 @@ parts_of (branch h x y) = Some (x, y)
 
 -- ---- the build test
 -- each term is undecided, or decided as the build test over the marks `known` says
-pub record Memo (s known : List ℕ) (l : List (Option Bool)) : Type 0 where
+pub record Memo (s : List ℕ) (known : Marks) (l : List (Option Bool)) : Type 0 where
   pub long : length l ≡ 256
   pub says : (n : ℕ) (b : Bool) → get_or l n None ≡ Some b → b ≡ built s (reached_of known) n
 
 -- where b is true, term k cannot be built over the marks `known`
-pub record Unbuilt (s known : List ℕ) (k : ℕ) (b : Bool) : Type 0 where
+pub record Unbuilt (s : List ℕ) (known : Marks) (k : ℕ) (b : Bool) : Type 0 where
   pub no : b ≡ true → built s (reached_of known) k ≡ false
 
 -- ---- taking a record apart
--- an encryption of `body` is opened by this key, 255 for none
-abbrev pub opens_by : ℕ → ℕ → Opening
-opens_by body key = cond (eqb key 255) Shut (With body key)
+-- what opens a record, if anything does
+abbrev pub opening_in : List ℕ → Rec → Option Opening
+opening_in s (leaf κ z) = None
+opening_in s (branch (make pair) x y) = Some (Freely x y)
+opening_in s (branch (make hash) x y) = None
+opening_in s (branch (make (encryption symmetric)) x k) = Some (With x k)
+opening_in s (branch (make (encryption asymmetric)) x k) = option_map (With x) (found_inverse s k)
+opening_in s (branch (part i) x y) = None
+opening_in s (branch (decrypt c) x y) = None
 
--- what opens a record
-abbrev pub opening_in : List ℕ → Rec → Opening
-opening_in s (leaf κ z) = Shut
-opening_in s (branch (make pair) x y) = Freely x y
-opening_in s (branch (make hash) x y) = Shut
-opening_in s (branch (make (encryption symmetric)) x k) = With x k
-opening_in s (branch (make (encryption asymmetric)) x k) = opens_by x (inverse_of s k)
-opening_in s (branch (part i) x y) = Shut
-opening_in s (branch (decrypt c) x y) = Shut
-
-abbrev pub opening_of : List ℕ → ℕ → Opening
+abbrev pub opening_of : List ℕ → ℕ → Option Opening
 opening_of s t = opening_in s (record_at s t)
 
 -- ---- what waits for a term
@@ -61,10 +65,10 @@ abbrev pub from : ℕ → ℕ → ℕ → Option Clause
 from term other result = Some (record { term = term; other = other; result = result })
 
 -- record t and the key that opens it give its body
-abbrev pub key_clause : ℕ → Opening → Option Clause
-key_clause t (Freely x y) = None
-key_clause t (With body key) = from key t body
-key_clause t Shut = None
+abbrev pub key_clause : ℕ → Option Opening → Option Clause
+key_clause t None = None
+key_clause t (Some (Freely x y)) = None
+key_clause t (Some (With body key)) = from key t body
 
 -- the parts of record t give its term; it waits for the first,
 abbrev pub first_clause : ℕ → Option (ℕ × ℕ) → Option Clause
@@ -95,12 +99,12 @@ has_hash_key s t = eqb (kind_at s t) 5 && eqb (kind_at s (y_at s t)) 7
 
 -- ---- marks, and the order in which terms are marked
 -- how many are not marked
-unfoldable pub unmarked : List ℕ → ℕ
+unfoldable pub unmarked : Marks → ℕ
 unmarked [] = 0
-unmarked (v ∷ l) = cond (eqb v 0) (suc (unmarked l)) (unmarked l)
+unmarked (v ∷ l) = cond (is_some v) (unmarked l) (suc (unmarked l))
 
 -- the order has room for every term that is not marked
-pub record Room (marks order : List ℕ) (end : ℕ) : Type 0 where
+pub record Room (marks : Marks) (order : List ℕ) (end : ℕ) : Type 0 where
   pub long : length marks ≡ 256
   pub order_long : length order ≡ 256
   pub enough : end + unmarked marks ≤ 256

@@ -15,7 +15,7 @@ pub struct KeyChains<'a> {
     pub ghost keys_chained: { Chaining (linked openings.now.table.bytes.now Role.Key) (terms openings.now.table.bytes.now) keys.before keys.latest },
 }
 
-// And those that wait for each term as the first or the second part that they are built from.
+// The same, and the records that wait for each term as the first or the second part that they are built from.
 #[derive(Drop)]
 pub struct PartChains<'a> {
     pub keys: &'a KeyChains<'a>,
@@ -26,7 +26,7 @@ pub struct PartChains<'a> {
 }
 
 // The records that wait in this role, by the term that they wait for.
-pub(crate) fn chained(openings: &Openings, role: Role) -> ByteChains
+pub fn chained(openings: &Openings, role: Role) -> ByteChains
     ensures { Chaining (linked openings.now.table.bytes.now role) (terms openings.now.table.bytes.now) result.before result.latest }
 {
     let n = openings.table.terms();

@@ -20,11 +20,11 @@ ghost use Rattle.deduction.specs.Computed.{built, entry_marks, is_deducible, ded
 ghost use Rattle.deduction.specs.Code.{reached_of, SameMarks, Memo, Unbuilt};
 ghost use Rattle.deduction.specs.Saturation.{Exact};
 
-use base::{Fault, Refusal};
+use base::Refusal;
 pub use opening::{Clause, Opening, Openings, Role, parts_of};
 pub use saturation::reach_all;
 use submission::Table;
-pub use worklist::{START_MARK, Worklist};
+pub use worklist::{Origin, Worklist};
 
 // True at each term of the knowledge. Of a start that flags terms, those of numbers that are not below T count for nothing.
 pub fn knowledge_marks(s: &[u8]) -> [bool; 256]
@@ -40,58 +40,67 @@ pub fn knowledge_marks(s: &[u8]) -> [bool; 256]
 
 // ---- The build test.
 
-// Whether term t can be built, which the memo keeps where it is decided. The parts of t are earlier records, so the number falls, and each term is
-// decided once. The memo is lent, so that a call holds little: terms nest 250 deep.
-fn build(table: Table, known: &[u8; 256], memo: &mut [Option<bool>; 256], t: u8) -> bool
-    requires t_bound { t < terms table.bytes.now }
-    requires memo { Memo table.bytes.now known.now memo.old }
-    ensures memo { Memo table.entry.bytes.now known.now memo.new }
-    ensures built { result ≡ built table.entry.bytes.now (reached_of known.now) t }
-{
-    let i = usize::from(t);
-    if let Some(decided) = memo[i] {
-        return decided;
-    }
-    if known[i] != 0 {
-        memo[i] = Some(true);
-        return true;
-    }
-    let Some((x, y)) = parts_of(table, t) else {
-        memo[i] = Some(false);
-        return false;
-    };
-    let answer = build(table, known, memo, x) && build(table, known, memo, y);
-    memo[i] = Some(answer);
-    answer
+// A table, and the marks over which its terms are built.
+#[derive(Clone, Copy)]
+struct Known<'a> {
+    pub table: Table<'a>,
+    pub marks: &'a [Option<Origin>; 256],
 }
 
-// Whether term k is an atom that is not known: that cannot be built.
-#[tactic(auto, using(crate::proofs::BuildMemo::not_missing, crate::proofs::BuildMemo::missing))]
-fn is_missing(table: Table, known: &[u8; 256], k: u8) -> bool
-    requires { k < terms table.bytes.now }
-    ensures { Unbuilt table.entry.bytes.now known.now k result }
-{
-    if known[usize::from(k)] != 0 {
-        return false;
+impl Known<'_> {
+    // Whether term t can be built, which the memo keeps where it is decided. The parts of t are earlier records, so the number falls, and each term
+    // is decided once. The memo is lent, so that a call holds little: terms nest 250 deep.
+    fn build(self, memo: &mut [Option<bool>; 256], t: u8) -> bool
+        requires t_bound { t < terms self.table.bytes.now }
+        requires memo { Memo self.table.bytes.now self.marks.now memo.old }
+        ensures memo { Memo self.entry.table.bytes.now self.entry.marks.now memo.new }
+        ensures built { result ≡ built self.entry.table.bytes.now (reached_of self.entry.marks.now) t }
+    {
+        let i = usize::from(t);
+        if let Some(decided) = memo[i] {
+            return decided;
+        }
+        if self.marks[i].is_some() {
+            memo[i] = Some(true);
+            return true;
+        }
+        let Some((x, y)) = parts_of(self.table, t) else {
+            memo[i] = Some(false);
+            return false;
+        };
+        let answer = self.build(memo, x) && self.build(memo, y);
+        memo[i] = Some(answer);
+        answer
     }
-    let parts = parts_of(table, k);
-    parts.is_none()
-}
 
-// Whether the terms p and q can both be built over the marks `known`. Each is decided once: an atom that is missing at once, with no memo.
-fn are_built(table: Table, known: &[u8; 256], p: u8, q: u8) -> bool
-    requires p_bound { p < terms table.bytes.now }
-    requires q_bound { q < terms table.bytes.now }
-    ensures { result ≡ (built table.entry.bytes.now (reached_of known.now) p && built table.entry.bytes.now (reached_of known.now) q) }
-{
-    if is_missing(table, known, p) {
-        return false;
+    // Whether term k is an atom that is not known: that cannot be built.
+    #[tactic(auto, using(crate::proofs::BuildMemo::not_missing, crate::proofs::BuildMemo::missing))]
+    fn is_missing(self, k: u8) -> bool
+        requires { k < terms self.table.bytes.now }
+        ensures { Unbuilt self.entry.table.bytes.now self.entry.marks.now k result }
+    {
+        if self.marks[usize::from(k)].is_some() {
+            return false;
+        }
+        let parts = parts_of(self.table, k);
+        parts.is_none()
     }
-    if is_missing(table, known, q) {
-        return false;
+
+    // Whether the terms p and q can both be built. Each is decided once: an atom that is missing at once, with no memo.
+    fn are_built(self, p: u8, q: u8) -> bool
+        requires p_bound { p < terms self.table.bytes.now }
+        requires q_bound { q < terms self.table.bytes.now }
+        ensures { result ≡ (built self.entry.table.bytes.now (reached_of self.entry.marks.now) p && built self.entry.table.bytes.now (reached_of self.entry.marks.now) q) }
+    {
+        if self.is_missing(p) {
+            return false;
+        }
+        if self.is_missing(q) {
+            return false;
+        }
+        let mut memo = [None; 256];
+        self.build(&mut memo, p) && self.build(&mut memo, q)
     }
-    let mut memo = [None; 256];
-    build(table, known, &mut memo, p) && build(table, known, &mut memo, q)
 }
 
 // ---- The calls.
@@ -112,8 +121,12 @@ pub fn are_deducible(table: Table, start: &[bool; 256], p: u8, q: u8) -> bool
     requires q_bound { q < terms table.bytes.now }
     ensures { result ≡ (is_deducible table.entry.bytes.now start.now p && is_deducible table.entry.bytes.now start.now q) }
 {
-    let known = saturated(table, start);
-    are_built(table, &known.marks, p, q)
+    let work = saturated(table, start);
+    let known = Known {
+        table,
+        marks: &work.marks,
+    };
+    known.are_built(p, q)
 }
 
 // Whether term t is deducible from the knowledge.
@@ -121,19 +134,22 @@ fn is_deducible(table: Table, t: u8) -> bool
     requires { t < terms table.bytes.now }
     ensures { result ≡ is_deducible table.entry.bytes.now (entry_marks table.entry.bytes.now) t }
 {
-    let known = saturated(table, &knowledge_marks(table.bytes));
+    let work = saturated(table, &knowledge_marks(table.bytes));
+    let known = Known {
+        table,
+        marks: &work.marks,
+    };
     let mut memo = [None; 256];
-    build(table, &known.marks, &mut memo, t)
+    known.build(&mut memo, t)
 }
 
-// Whether term t is deducible from the knowledge of the submission: 1 for yes, 0 for no.
+// Whether term t is deducible from the knowledge of the submission: 1 for yes, 0 for no. A number, as `run` and the calls for C answer: one `encode`
+// serves all.
 #[tactic(auto, unfolding(crate::specs::Computed::deducible_answer))]
 pub fn deducible(s: &[u8], t: u8) -> Result<u16, Refusal>
     ensures { answer_of result ≡ deducible_answer s.now t }
 {
     let table = Table::read(s)?;
-    if table.terms() <= t {
-        return Err(Fault::NoSuchTerm.at(0));
-    }
+    table.check_term(t)?;
     Ok(u16::from(is_deducible(table, t)))
 }

@@ -2,7 +2,7 @@
 ghost use Rattle.std.specs.Prelude.{◌≡◌, ◌<◌};
 ghost use Rattle.submission.specs.Record.{terms, record_at};
 ghost use Rattle.inverse.specs.Code.{Inverses};
-ghost use Rattle.deduction.specs.Code.{parts_of, opens_by, opening_of, key_clause, first_clause, second_clause, clause_of};
+ghost use Rattle.deduction.specs.Code.{parts_of, opening_of, key_clause, first_clause, second_clause, clause_of};
 
 use submission::Table;
 use term::Kind;
@@ -20,45 +20,36 @@ pub fn parts_of(table: Table, t: u8) -> Option<(u8, u8)>
     Some((term.x, term.second_part()))
 }
 
-// What opens a record: a pair gives both parts freely, an encryption its body where the key can be built, and anything else nothing.
-#[derive(Clone, Copy)]
+// What opens a record: a pair gives both parts freely, an encryption its body where the key can be built.
+#[derive(Clone, Copy, PartialEq, Eq)]
 pub enum Opening {
     Freely { x: u8, y: u8 },
     With { body: u8, key: u8 },
-    Shut,
-}
-
-// An encryption is opened by this key, 255 for none.
-fn with_key(body: u8, key: u8) -> Opening
-    ensures { result ≡ opens_by body key }
-{
-    if key == 255 {
-        return Opening::Shut;
-    }
-    Opening::With { body, key }
 }
 
 // As what a record waits for a term: as the key that opens it, or as its first or its second part, to be built from.
-#[derive(Clone, Copy)]
+// A choice and no closure: it is data, the column of a record's clauses, and the facts that the chains and the firing keep are about one role.
+#[derive(Clone, Copy, PartialEq, Eq)]
 pub enum Role {
     Key,
     First,
     Second,
 }
 
-// From `term` and `other`, `result`.
-#[derive(Clone, Copy)]
+// Where `term` and `other` are had, `result` is.
+#[derive(Clone, Copy, PartialEq, Eq)]
 pub struct Clause {
     pub term: u8,
     pub other: u8,
     pub result: u8,
 }
 
-// The table with the number of each term's inverse, or 255 where none is listed.
+// The table with the number of each term's inverse, where one is listed.
+// Its functions ask for a number below T, each in a line: a value of number and table would be made at each number read, and ask the same there.
 #[derive(Drop)]
 pub struct Openings<'a> {
     pub table: Table<'a>,
-    pub inverses: [u8; 256],
+    pub inverses: [Option<u8>; 256],
     pub ghost found: { Inverses table.bytes.now inverses },
 }
 
@@ -70,26 +61,27 @@ impl<'a> Openings<'a> {
         Openings { table, inverses }
     }
 
-    #[tactic(auto, using(crate::proofs::RecordOpening::opens_none, crate::proofs::RecordOpening::opens_freely, crate::proofs::RecordOpening::opens_symmetric, crate::proofs::RecordOpening::opens_asymmetric))]
-    pub fn opening_of(&self, t: u8) -> Opening
+    // None for a record of another kind, and for an asymmetric encryption whose key has no inverse listed.
+    #[tactic(auto, using(crate::proofs::RecordOpening::opens_none, crate::proofs::RecordOpening::opens_freely, crate::proofs::RecordOpening::opens_symmetric, crate::proofs::RecordOpening::opens_asymmetric, crate::proofs::RecordOpening::opens_unlisted))]
+    pub fn opening_of(&self, t: u8) -> Option<Opening>
         requires { t < terms self.now.table.bytes.now }
         ensures { result ≡ opening_of self.now.table.bytes.now t }
     {
         let term = self.table.term(t);
-        let Some(kind) = term.kind() else {
-            return Opening::Shut;
-        };
-        match kind {
-            Kind::Pair => Opening::Freely {
+        match term.kind()? {
+            Kind::Pair => Some(Opening::Freely {
                 x: term.x,
                 y: term.y,
-            },
-            Kind::Enc => Opening::With {
+            }),
+            Kind::Enc => Some(Opening::With {
                 body: term.x,
                 key: term.y,
-            },
-            Kind::Enca => with_key(term.x, self.inverses[usize::from(term.y)]),
-            _ => Opening::Shut,
+            }),
+            Kind::Enca => {
+                let key = self.inverses[usize::from(term.y)]?;
+                Some(Opening::With { body: term.x, key })
+            }
+            _ => None,
         }
     }
 
@@ -98,7 +90,7 @@ impl<'a> Openings<'a> {
         requires { t < terms self.now.table.bytes.now }
         ensures { result ≡ key_clause t (opening_of self.now.table.bytes.now t) }
     {
-        let Opening::With { body, key } = self.opening_of(t) else {
+        let Some(Opening::With { body, key }) = self.opening_of(t) else {
             return None;
         };
         Some(Clause {
@@ -109,7 +101,7 @@ impl<'a> Openings<'a> {
     }
 
     // What record t gives, in its role. Its two parts give its own term.
-    pub(crate) fn clause_of(&self, role: Role, t: u8) -> Option<Clause>
+    pub fn clause_of(&self, role: Role, t: u8) -> Option<Clause>
         requires { t < terms self.now.table.bytes.now }
         ensures { result ≡ clause_of self.now.table.bytes.now role t }
     {

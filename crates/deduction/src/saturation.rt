@@ -1,5 +1,5 @@
 // How each listed term is reached from any marked terms: they are taken apart, and where a compound term is a key, built too.
-ghost use Rattle.std.specs.Prelude.{◌≡◌, ◌<◌, ◌≤◌};
+ghost use Rattle.std.specs.Prelude.{◌≡◌, ◌<◌, ◌≤◌, replicate, None};
 ghost use Rattle.base.specs.Computed.{any};
 ghost use Rattle.base.specs.Code.{Chaining};
 ghost use Rattle.submission.specs.Record.{terms};
@@ -8,10 +8,12 @@ ghost use Rattle.deduction.specs.Saturation.{Holds, Turns, Queue, Ready, FiredOn
 
 use crate::chains::{KeyChains, PartChains, chained};
 use crate::opening::{Opening, Openings, Role, parts_of};
-use crate::worklist::{START_MARK, Worklist};
+use crate::worklist::{Origin, Worklist};
 use base::ByteChains;
 use submission::Table;
 use term::Kind;
+
+// Below, that u is a term and that it is reached stand in a line each: most goals need one alone, and a record of the two would be taken apart in each.
 
 // What the clause of record t gives, in the role in which t waited for a term that is marked by now. It comes from record t: as its body, or as its
 // own term.
@@ -21,15 +23,14 @@ fn fire_one(openings: &Openings, role: Role, work: &mut Worklist, t: u8)
     requires ready { Ready openings.now.table.bytes.now role work.old.marks t }
     ensures { Turns (FiredOne openings.now.table.bytes.now role t) work.old work.new }
 {
-    let clause = openings.clause_of(role, t);
-    let Some(clause) = clause else {
+    let Some(clause) = openings.clause_of(role, t) else {
         return;
     };
-    let mark = t + 1;
-    work.push_with(clause.result, mark, clause.other);
+    work.push_with(clause.result, Origin::Record(t), clause.other);
 }
 
-// What the clauses give of all records that wait for term u in this role.
+// What the clauses give of all records that wait for term u in this role. Its three arguments are no struct: that would need a further fact, which
+// role it holds, since `open_all` is of `Role::Key` alone.
 fn fire(openings: &Openings, role: Role, chains: &ByteChains, work: &mut Worklist, u: u8)
     requires chaining { Chaining (linked openings.now.table.bytes.now role) (terms openings.now.table.bytes.now) chains.now.before chains.now.latest }
     requires queue { Holds (Queue openings.now.table.bytes.now) work.old }
@@ -38,6 +39,8 @@ fn fire(openings: &Openings, role: Role, chains: &ByteChains, work: &mut Worklis
     ensures { Turns (Fired openings.now.table.bytes.now role u) work.old work.new }
 {
     let mut next = chains.latest(u);
+    // std's `successors` promises no end, and an iterator of our own would need a ghost field that each link is lower: only `Chained`, of one chain's
+    // own function, says so.
     while let Some(j) = next {
         fire_one(openings, role, work, j);
         next = chains.before(j);
@@ -51,61 +54,59 @@ fn take_apart(openings: &Openings, work: &mut Worklist, u: u8)
     requires reached { Reached work.old.marks u }
     ensures { Turns (TakenApart openings.now.table.bytes.now u) work.old work.new }
 {
-    let mark = u + 1;
-    let o = openings.opening_of(u);
-    match o {
+    let origin = Origin::Record(u);
+    let Some(opening) = openings.opening_of(u) else {
+        return;
+    };
+    match opening {
         Opening::Freely { x, y } => {
-            work.push(x, mark);
-            work.push(y, mark);
+            work.push(x, origin);
+            work.push(y, origin);
         }
-        Opening::With { body, key } => work.push_with(body, mark, key),
-        Opening::Shut => {}
+        Opening::With { body, key } => work.push_with(body, origin, key),
     }
 }
 
-// The terms that `start` marks.
-fn enter(table: Table, start: &[bool; 256]) -> Worklist
-    ensures queue { Holds (Queue table.entry.bytes.now) result }
-    ensures entered { Entered table.entry.bytes.now start.now result.marks }
+// The terms that `start` marks, where none is marked yet. In place: an answered worklist is copied, a tenth more instructions for `check` of a small
+// submission.
+fn enter(table: Table, start: &[bool; 256], work: &mut Worklist)
+    requires marks { work.old.marks ≡ replicate 256 None }
+    requires end { work.old.end ≡ 0 }
+    ensures queue { Holds (Queue table.entry.bytes.now) work.new }
+    ensures entered { Entered table.entry.bytes.now start.now work.new.marks }
 {
     let n = table.terms();
-    let mut work = Worklist::new();
+    // By number, as `push` and the contract name a term: a zip with `start` would give number and flag apart.
     for t in 0..n {
         if start[usize::from(t)] {
-            work.push(t, START_MARK);
+            work.push(t, Origin::Start);
         }
     }
-    work
 }
 
 // Whether record t is an encryption under a hash.
-fn is_under_hash(table: Table, t: u8) -> bool
-    ensures { result ≡ has_hash_key table.entry.bytes.now t }
+fn is_under_hash(s: &[u8], t: u8) -> bool
+    ensures { result ≡ has_hash_key s.now t }
 {
-    let term = table.term(t);
+    let term = submission::term_at(s, t);
     if term.kind() != Some(Kind::Enc) {
         return false;
     }
-    let key = table.term(term.y);
+    let key = submission::term_at(s, term.y);
     key.kind() == Some(Kind::Hash)
 }
 
 // Whether a compound term is the key of an encryption: a hash is, and nothing else.
-fn has_compound_key(table: Table) -> bool
-    ensures { result ≡ any (has_hash_key table.entry.bytes.now) (terms table.entry.bytes.now) }
+pub fn has_compound_key(s: &[u8]) -> bool
+    ensures { result ≡ any (has_hash_key s.now) (terms s.now) }
 {
-    let n = table.terms();
-    for i in 0..n {
-        if is_under_hash(table, i) {
-            return true;
-        }
-    }
-    false
+    (0..submission::terms(s)).any(|i| is_under_hash(s, i))
 }
 
 impl KeyChains<'_> {
     // Takes apart the terms of the order from `from` on, and those that this marks. Each is treated once, and so is each encryption that it
     // opens as a key.
+    // `compose_all` has a loop of its own: the two keep different facts, which one function for both would take as parameters of its contract.
     fn open_all(&self, work: &mut Worklist, from: usize)
         requires queue { Holds (Queue self.now.openings.now.table.bytes.now) work.old }
         requires from_le_end { from ≤ work.old.end }
@@ -177,13 +178,12 @@ pub(crate) fn saturate(openings: &Openings, start: &[bool; 256]) -> Worklist
         openings,
         keys: chained(openings, Role::Key),
     };
-    let mut work = enter(openings.table, start);
+    let mut work = Worklist::new();
+    enter(openings.table, start, &mut work);
     keys.open_all(&mut work, 0);
-    let only_atoms = !has_compound_key(openings.table);
-    if only_atoms {
-        return work;
+    if has_compound_key(openings.table.bytes) {
+        keys.compose_all(&mut work);
     }
-    keys.compose_all(&mut work);
     work
 }
 
@@ -195,15 +195,14 @@ fn build_one(table: Table, work: &mut Worklist, t: u8)
     requires queue { Holds (Queue table.bytes.now) work.old }
     ensures { Turns (BuiltOne table.entry.bytes.now t) work.old work.new }
 {
-    let parts = parts_of(table, t);
-    let Some((x, y)) = parts else {
+    let Some((x, y)) = parts_of(table, t) else {
         return;
     };
-    if work.marks[usize::from(x)] == 0 {
+    let mark = work.marks[usize::from(x)];
+    if mark.is_none() {
         return;
     }
-    let mark = t + 1;
-    work.push_with(t, mark, y);
+    work.push_with(t, Origin::Record(t), y);
 }
 
 // Every term that can be built is marked. Parts are earlier records, so one pass is enough.

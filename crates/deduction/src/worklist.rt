@@ -1,57 +1,62 @@
 // The terms that are marked, in the order in which they were.
 ghost use Rattle.deduction.specs.Code.{Room};
 
-// The mark of a term says how it was reached. 0 is that of a term that was not, and START_MARK that of one that is from the start. Any other is one
-// more than the number of the record that the term comes from: its own, where it was built of its parts, or the one that it was taken from.
-// Numbers and no enum: that is no plainer, since what is asked of a mark is whether it is 0, and an enum in an Option takes a match for it.
-pub const START_MARK: u8 = 255;
+// How a term was reached: it is from the start, or it comes from the record of this number: its own, where it was built of its parts, or the one that
+// it was taken from. No Option of the record: the mark is one already.
+#[derive(Clone, Copy, PartialEq, Eq)]
+pub enum Origin {
+    Start,
+    Record(u8),
+}
 
-// A mark for each term number, and the first `end` of `order` are the terms that are marked.
-// What it is for a table stands in the contracts: a ghost field would name the table, and each method would promise that this stays.
+// The mark of each term that was reached says how, and the first `end` of `order` are the terms that are marked.
+// Arrays and a count, since the project uses no heap: they are memory of a fixed size.
+// What it is for a table stands in the contracts, as `Queue`: for a ghost field it would hold the table, and each function that changes it would then
+// promise, in the place of asking for `Queue`, that the table stays.
 #[derive(Drop)]
 pub struct Worklist {
-    pub marks: [u8; 256],
+    pub marks: [Option<Origin>; 256],
     pub order: [u8; 256],
     pub end: usize,
     pub ghost room: { Room marks order end },
 }
 
 impl Worklist {
-    ghost use Rattle.std.specs.Prelude.{◌≡◌, ◌<◌, replicate};
+    ghost use Rattle.std.specs.Prelude.{◌≡◌, replicate, None};
     ghost use Rattle.deduction.specs.Saturation.{Turns, Pushed, PushedWith};
 
     pub(crate) fn new() -> Self
-        ensures marks { result.marks ≡ replicate 256 0 }
+        ensures marks { result.marks ≡ replicate 256 None }
         ensures end { result.end ≡ 0 }
     {
         Worklist {
-            marks: [0; 256],
+            marks: [None; 256],
             order: [0; 256],
             end: 0,
         }
     }
 
-    // Gives term t this mark and puts it at the end of the order, where it is not marked yet.
-    pub(crate) fn push(&mut self, t: u8, mark: u8)
-        requires { 0 < mark }
-        ensures { Turns (Pushed t mark) self.old self.new }
+    // Marks term t with this origin and puts it at the end of the order, where it is not marked yet.
+    pub(crate) fn push(&mut self, t: u8, origin: Origin)
+        ensures { Turns (Pushed t origin) self.old self.new }
     {
         let i = usize::from(t);
-        if self.marks[i] != 0 {
+        let mark = self.marks[i];
+        if mark.is_some() {
             return;
         }
-        self.marks[i] = mark;
+        self.marks[i] = Some(origin);
         self.order[self.end] = t;
         self.end += 1;
     }
 
     // The same, where the term `with` is marked.
-    pub(crate) fn push_with(&mut self, t: u8, mark: u8, with: u8)
-        requires { 0 < mark }
-        ensures { Turns (PushedWith t mark with) self.old self.new }
+    pub(crate) fn push_with(&mut self, t: u8, origin: Origin, with: u8)
+        ensures { Turns (PushedWith t origin with) self.old self.new }
     {
-        if self.marks[usize::from(with)] != 0 {
-            self.push(t, mark);
+        let mark = self.marks[usize::from(with)];
+        if mark.is_some() {
+            self.push(t, origin);
         }
     }
 }

@@ -17,18 +17,18 @@ use Rattle.derivation.specs.declared.Registers.{Registers}
 use Rattle.derivation.specs.Step.{written}
 use Rattle.derivation.specs.{Computed.bad_step, Computed.unfounded, Computed.check_steps}
 use Rattle.derivation.specs.Code.{IsStep, Lowest, Registered, register_in, check_step, StepsChecked}
-use Rattle.derivation.proofs.RegistersHeld.{held_any, held_in}
+use Rattle.derivation.proofs.RegistersHeld.{held_any}
 
 -- ---- check 7 of a step
-module _ {s : List ℕ} {i : ℕ} {f : List ℕ} {st : Step} (h : Lowest s (written s i) f) (x : IsStep s i st) (l : st.p < 256) {v : Maybe ℕ} (e : v ≡ register_in f st.p) where
+module _ {s : List ℕ} {i : ℕ} {f : List (Maybe ℕ)} {st : Step} (h : Lowest s (written s i) f) (x : IsStep s i st) (l : st.p < 256) {v : Maybe ℕ} (e : v ≡ register_in f st.p) where
   pub first_unknown : {b : Bool} → is_held v ≡ not b → b ≡ true → b ≡ unfounded s i
   unfolding unfounded
-  first_unknown k d = rw (← x.first, held_any h st.p l, ← held_in f st.p, ← e, k, d)
+  first_unknown k d = rw (← x.first, held_any h st.p l, ← e, k, d)
 
   pub second_decides : {a b : Bool} {u : ℕ} {w : Maybe ℕ} → is_held v ≡ not a → a ≡ false → u ≡ cond (has_one st.rule) st.p st.q → u < 256 → w ≡ register_in f u → is_held w ≡ not b → b ≡ unfounded s i
   unfolding unfounded second_at
   second_decides {u = u} n d k m g y =
-      rw (← x.first, ← x.second, ← x.rule, ← k, held_any h st.p l, ← held_in f st.p, ← e, n, d, held_any h u m, ← held_in f u, ← g, y, not-not)
+      rw (← x.first, ← x.second, ← x.rule, ← k, held_any h st.p l, ← e, n, d, held_any h u m, ← g, y, not-not)
 
 -- ---- the loop over the steps
 abbrev pub faulty : List ℕ → ℕ → Bool

@@ -1,8 +1,9 @@
 -- What the code's records mean in document 01's terms.
-use mathlib.Core.{Path.◌≡◌, Bool.cond, List.List}
+use mathlib.Core.{Path.◌≡◌, List.List, Option.Option, Option.none, Option.some}
 use Rattle.std.specs.Prelude.{ℕ, ◌<◌, ◌+◌, Result, Ok, Option as Maybe, Some, None}
-use lib.{Dec.eqb, ListN.get_or, ListN.set}
-use Rattle.base.specs.{Computed.or_none, Computed.Check, Computed.fails_if, Computed.and_then, Code.check_of}
+use Rattle.std.specs.Option.{option_or}
+use lib.{ListN.length, ListN.get_or, ListN.set}
+use Rattle.base.specs.{Computed.Check, Computed.fails_if, Computed.and_then, Code.check_of}
 use Rattle.submission.specs.{Record.steps, Record.rule_at, Record.p_at, Record.q_at, Record.conclusion_at}
 use Rattle.base.specs.declared.refusal.Refusal.{Refusal}
 use Rattle.derivation.specs.declared.Step.{Step}
@@ -16,10 +17,20 @@ pub record IsStep (s : List ℕ) (i : ℕ) (r : Step) : Type 0 where
   pub second : r.q ≡ q_at s i
   pub conclusion : r.conclusion ≡ conclusion_at s i
 
--- first has for each term number the lowest of the first n registers that counts and holds the term, 255 for none
-pub record Lowest (s : List ℕ) (n : ℕ) (first : List ℕ) : Type 0 where
+-- a number, where there is one
+abbrev pub number_is : Maybe ℕ → Option ℕ
+number_is None = none
+number_is (Some n) = some n
+
+-- the lowest register that holds the term t, where first has one
+abbrev pub register_in : List (Maybe ℕ) → ℕ → Maybe ℕ
+register_in first t = get_or first t None
+
+-- first has for each term number the lowest of the first n registers that counts and holds the term
+pub record Lowest (s : List ℕ) (n : ℕ) (first : List (Maybe ℕ)) : Type 0 where
   pub few : n < 256
-  pub each : (t : ℕ) → t < 256 → get_or first t 0 ≡ or_none (lowest_among s n t)
+  pub long : length first ≡ 256
+  pub each : (t : ℕ) → t < 256 → number_is (register_in first t) ≡ lowest_among s n t
 
 -- r is the first n registers: how many they are, and the lowest for each term
 pub record Registered (s : List ℕ) (n : ℕ) (r : Registers) : Type 0 where
@@ -29,15 +40,12 @@ pub record Registered (s : List ℕ) (n : ℕ) (r : Registers) : Type 0 where
 -- no register is in use
 pub record Unused (r : Registers) : Type 0 where
   pub used : r.used ≡ 0
-  pub first : (t : ℕ) → t < 256 → get_or r.first t 0 ≡ 255
+  pub long : length r.first ≡ 256
+  pub first : (t : ℕ) → t < 256 → register_in r.first t ≡ None
 
--- the lowest register that holds the term t, where first has one
-abbrev pub register_in : List ℕ → ℕ → Maybe ℕ
-register_in first t = cond (eqb (get_or first t 0) 255) None (Some (get_or first t 0))
-
--- first, once the next register q holds the term t
-unfoldable pub holding : List ℕ → ℕ → ℕ → List ℕ
-holding first t q = cond (eqb (get_or first t 0) 255) (set first t q) first
+-- first, once the next register q holds the term t: it is the lowest where t had none
+unfoldable pub holding : List (Maybe ℕ) → ℕ → ℕ → List (Maybe ℕ)
+holding first t q = set first t (option_or (register_in first t) (Some q))
 
 -- new is old, once its next register holds the term t
 pub record Held (old : Registers) (t : ℕ) (new : Registers) : Type 0 where

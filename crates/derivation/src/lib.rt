@@ -2,7 +2,8 @@
 // Promises: every function is total, and its answer is what the definitions of specs/ give.
 #![tactic(auto)]
 
-ghost use Rattle.std.specs.Prelude.{◌≡◌, ◌&&◌, ◌<◌, ◌+◌, cond, eqb, get_or};
+ghost use Rattle.std.specs.Prelude.{◌≡◌, ◌&&◌, ◌<◌, ◌+◌, cond, eqb};
+ghost use Rattle.std.specs.Option.{option_eq};
 ghost use Rattle.term.specs.Term.{asymmetric, pair, encryption, compound};
 ghost use Rattle.term.specs.Number.{shape_of, rules as rule_count, head_of, has_one};
 ghost use Rattle.term.specs.Computed.{kind_of};
@@ -17,7 +18,7 @@ pub use steps::Derivation;
 use submission::Term;
 use term::{Kind, rules};
 
-// A step's record.
+// A step's record. The rule is a byte, as of a record that no check has passed, and stays one, as the machine matches on it.
 #[derive(Clone, Copy, PartialEq, Eq)]
 pub struct Step {
     pub rule: u8,
@@ -44,11 +45,7 @@ impl Step {
     pub fn second(self) -> u8
         ensures { result ≡ cond (has_one self.rule) self.p self.q }
     {
-        if rules::has_one(self.rule) {
-            self.p
-        } else {
-            self.q
-        }
+        rules::second_operand(self.rule, self.p, self.q)
     }
 
     // Whether this part of the pair `from` is what the step concludes, from `from` alone.
@@ -89,8 +86,7 @@ impl Step {
 
 // Whether t is the record that the rule builds from x and y.
 fn is_built(t: Term, rule: u8, x: u8, y: u8) -> bool
-    requires { rule < rule_count }
-    ensures { result ≡ (eqb (builder_of (shape_of t.kind)) rule && (eqb t.x x && eqb t.y y)) }
+    ensures { result ≡ (option_eq eqb (builder_of (shape_of t.kind)) (Some rule) && (eqb t.x x && eqb t.y y)) }
 {
     t.rule() == Some(rule) && t.x == x && t.y == y
 }
@@ -109,11 +105,10 @@ fn is_step_bad(s: &[u8], i: u8) -> bool
         && step.follows(s))
 }
 
-// The lowest register of each term by its number, and the count of registers in use.
-// 255 stands for none: one byte for each term in fixed memory, where an Option takes two.
+// The lowest register of each term by its number, and the count of registers in use. Document 01 names this form.
 #[derive(Drop)]
 pub struct Registers {
-    pub first: [u8; 256],
+    pub first: [Option<u8>; 256],
     pub used: u8,
 }
 
@@ -122,7 +117,7 @@ impl Registers {
         ensures { Unused result }
     {
         Registers {
-            first: [255u8; 256],
+            first: [None; 256],
             used: 0,
         }
     }
@@ -131,20 +126,17 @@ impl Registers {
     pub fn lowest(&self, t: u8) -> Option<u8>
         ensures { result ≡ register_in self.now.first t }
     {
-        let register = self.first[usize::from(t)];
-        (register != 255).then_some(register)
+        self.first[usize::from(t)]
     }
 
     // The next register holds term t: it is the lowest where t had none.
-    #[tactic(auto, using(crate::proofs::RegistersHeld::holds))]
+    #[tactic(auto, unfolding(crate::specs::Code::holding))]
     fn hold(&mut self, t: u8)
         requires { self.old.used < 255 }
         ensures { Held self.old t self.new }
     {
         let i = usize::from(t);
-        if self.first[i] == 255 {
-            self.first[i] = self.used;
-        }
+        self.first[i] = self.first[i].or(Some(self.used));
         self.used += 1;
     }
 

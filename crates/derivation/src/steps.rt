@@ -1,4 +1,4 @@
-// The derivation of a submission that passed checks 1 to 5, its registers, and checks 6 and 7.
+// A derivation with its claim: its records, the registers of the knowledge and of the guess, and checks 6 and 7, step by step.
 ghost use Rattle.std.specs.Prelude.{◌≡◌};
 ghost use Rattle.submission.specs.Record.{entries, steps, entry_at};
 ghost use Rattle.submission.specs.Code.{Limited, way_is, IsClaim};
@@ -10,9 +10,10 @@ ghost use Rattle.derivation.specs.Code.{IsStep, Lowest, Registered, check_step, 
 
 use crate::{Registers, Step};
 use base::{Fault, Refusal};
-use submission::{Claim, Claims, Submission};
+use submission::{Claim, Claimed, Claims, Submission};
 
-// The bytes of a submission whose counts are within their limits, and its claim.
+// The bytes of a submission whose counts are within their limits, and its claim. A `Claimed` inside would make each path in the contracts longer
+// by one name.
 #[derive(Clone, Copy)]
 pub struct Derivation<'a> {
     pub bytes: &'a [u8],
@@ -33,6 +34,18 @@ impl<'a> From<Submission<'a>> for Derivation<'a> {
 }
 
 impl<'a> Derivation<'a> {
+    // The bytes and their claim.
+    pub fn claimed(self) -> Claimed<'a>
+        ensures bytes { result.bytes.now ≡ self.entry.bytes.now }
+        ensures claim { result.claim ≡ self.entry.claim }
+    {
+        Claimed {
+            bytes: self.bytes,
+            claim: self.claim,
+        }
+    }
+
+    // A step, the counts and an entry are those of any bytes, and free functions give them to a caller that has bytes alone. Here they have short names.
     pub fn step(self, i: u8) -> Step
         ensures { IsStep self.entry.bytes.now i result }
     {
@@ -94,22 +107,28 @@ impl<'a> Derivation<'a> {
         requires { Lowest self.bytes.now (written self.bytes.now i) registers.now.first }
         ensures { check_of result ≡ check_step self.entry.bytes.now i }
     {
-        if crate::is_step_bad(self.bytes, i) {
-            return Err(Fault::Step.at(u16::from(i)));
-        }
-        if self.is_unfounded(registers, i) {
-            return Err(Fault::Unfounded.at(u16::from(i)));
-        }
-        Ok(())
+        let step = Fault::Step
+            .at(u16::from(i))
+            .when(crate::is_step_bad(self.bytes, i));
+        let Ok(()) = step else {
+            return step;
+        };
+        Fault::Unfounded
+            .at(u16::from(i))
+            .when(self.is_unfounded(registers, i))
     }
 
-    // Checks 6 and 7, tried together, step by step: the registers after the last step, where all pass.
+    // Checks 6 and 7, tried together, step by step: the registers after the last step, where all pass. Document 01 names the form, here and in
+    // `check_step`: each stage's answer is taken apart by `let .. else`, and a refusal goes straight out.
     pub fn check_steps(self) -> Result<Registers, Refusal>
         ensures { StepsChecked self.entry.bytes.now result }
     {
         let mut registers = self.registers();
         for i in 0..self.steps() {
-            self.check_step(&registers, i)?;
+            let checked = self.check_step(&registers, i);
+            let Ok(()) = checked else {
+                return Err(checked.unwrap_err());
+            };
             registers.hold(self.step(i).conclusion);
         }
         Ok(registers)

@@ -1,16 +1,16 @@
 -- The checks in order and the page: a law for each way out of the call.
-use mathlib.Core.Path.{◌≡◌, sym, ◌∙◌}
+use mathlib.Core.Path.{◌≡◌, sym, ap, ◌∙◌}
 use mathlib.Core.List.{List}
-use Prim.Native.Nat.{ℕ, ◌≤◌, ◌<◌}
+use Prim.Native.Nat.{ℕ}
 use native.Mathlib.Omega.{arith}
 use lib.{ListN.length, Seq.take_all}
-use borrow.Author.Tests.{lt-ltb, le-ltb}
+use borrow.Author.Tests.{ltb-false}
 use Rattle.std.specs.Prelude.{Result, Ok, Err}
 use Rattle.base.specs.declared.refusal.Refusal.{Refusal}
-use Rattle.base.specs.declared.refusal.Fault.TheVariants.{Page}
+use Rattle.base.specs.Code.{check_of}
 use Rattle.base.specs.{Answer.done, Answer.refused, Answer.number_of, Answer.answer_of, Answer.Puts}
 use Rattle.base.specs.Computed.{Check, any, passes, fails, fails_if, check_room, and_then, answered}
-use Rattle.base.proofs.AnswerLaws.{fails_not_passes}
+use Rattle.base.proofs.AnswerLaws.{fails_not_passes, if_passes}
 use Rattle.base.proofs.PutLaws.{puts_front}
 use Rattle.submission.specs.{Body.Bodies, Body.records, Body.submission_of, Computed.check_limits}
 use Rattle.form.specs.Computed.{ragged, write_answer}
@@ -32,19 +32,20 @@ module _ (b : Bodies) (page : List ℕ) where
     unfolding room write_answer
     answer_is e = rw (w.whole, w.limited, e, f)
 
-    pub page_short : {r : Refusal} → length page < n → r.fault ≡ Page → r.place ≡ n → FormWritten b page (Err r) page
-    unfolding room
-    page_short l g h =
-        let e : room ≡ fails 11 n = rw (← f, lt-ltb (length page) n l) in
-        let a = answer_is e in
-        record { answer = rw (g, h) (sym a); bytes = rw a }
+    module _ (u : Result Unit Refusal) (g : check_of u ≡ check_room n (length page)) where
+      room_is : room ≡ check_of u
+      unfolding room
+      room_is = sym (rw f at g)
 
-    pub page_written : {page' : List ℕ} {k : ℕ} → n ≤ length page → Puts page 0 (submission_of b) page' k → FormWritten b page (Ok n) page'
-    unfolding room
-    page_written l p =
-        let e : room ≡ passes = rw (← f, le-ltb (length page) n l) in
-        let a = answer_is e in
-        record { answer = sym a; bytes = rw a (puts_front p ∙ rw (take_all (length page) (submission_of b) (omega arith))) }
+      pub page_short : {x : Refusal} (r : Result ℕ Refusal) → u ≡ Err x → answer_of r ≡ refused (number_of x.fault) x.place → FormWritten b page r page
+      page_short r e h = let a = answer_is (room_is ∙ ap check_of e) in record { answer = h ∙ sym a; bytes = rw a }
+
+      pub page_written : {v : Unit} {page' : List ℕ} {k : ℕ} → u ≡ Ok v → Puts page 0 (submission_of b) page' k → FormWritten b page (Ok n) page'
+      unfolding room
+      page_written e p =
+          let a = answer_is (room_is ∙ ap check_of e) in
+          let l = ltb-false (length page) n ((if_passes _ 11 n).0 (sym g ∙ ap check_of e)) in
+          record { answer = sym a; bytes = rw a (puts_front p ∙ rw (take_all (length page) (submission_of b) (omega arith))) }
 
   -- a refusal x of checks 14 and 2 goes straight out
   pub refused_out : (r : Result ℕ Refusal) (x : Refusal) → fails (number_of x.fault) x.place ≡ and_then (fails_if (any (ragged b) 4) 14 0) (check_limits (records b)) →

@@ -20,6 +20,7 @@ pub struct Bodies<'a> {
 
 impl Bodies<'_> {
     // Whether a body is not whole records.
+    #[tactic(auto, using(base::proofs::Says::any_four))]
     fn is_ragged(self) -> bool
         ensures { result ≡ any (ragged (bodies_in self.entry)) 4 }
     {
@@ -33,10 +34,7 @@ impl Bodies<'_> {
     pub fn check_whole(self) -> Result<(), Refusal>
         ensures { check_of result ≡ fails_if (any (ragged (bodies_in self.entry)) 4) 14 0 }
     {
-        if self.is_ragged() {
-            return Err(Fault::Ragged.at(0));
-        }
-        Ok(())
+        Fault::Ragged.at(0).when(self.is_ragged())
     }
 
     // How many records each body has.

@@ -13,6 +13,7 @@ use bodies::Bodies;
 use writable::WritableBodies;
 
 // Writes the submission of the four bodies to the page's start, contents first, and answers its length. Only an acceptance writes.
+// It asks four slices, as the C interface hands them on.
 pub fn write(
     terms: &[u8],
     knowledge: &[u8],

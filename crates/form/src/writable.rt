@@ -1,7 +1,7 @@
 // Bodies that passed checks 14 and 2, and the submission that is written from them.
 ghost use Rattle.std.specs.Prelude.{◌≡◌, IfOk, length};
 ghost use Rattle.base.specs.Words.{listed};
-ghost use Rattle.base.specs.Answer.{Wrote};
+ghost use Rattle.base.specs.Code.{Wrote};
 ghost use Rattle.base.specs.Code.{check_of};
 ghost use Rattle.base.specs.Computed.{any, and_then, fails_if};
 ghost use Rattle.submission.specs.Record.{start_of};
@@ -12,8 +12,8 @@ ghost use Rattle.form.specs.Code.{Writable, bodies_in};
 ghost use Rattle.form.specs.Calls.{FormWritten};
 
 use crate::bodies::Bodies;
-use base::{Fault, Refusal, Writer};
-use submission::CONTENTS_SIZE;
+use base::{Refusal, Writer};
+use submission::{CONTENTS_SIZE, LETTERS};
 
 // Whole bodies within their limits.
 #[derive(Clone, Copy)]
@@ -47,7 +47,7 @@ impl<'a> WritableBodies<'a> {
     fn length(self) -> u16
         ensures { result ≡ length (submission_of (bodies_in self.entry.bodies)) }
     {
-        (self.starts()[3] + self.bodies.claim.len()) as u16
+        u16::try_from(self.starts()[3] + self.bodies.claim.len()).unwrap()
     }
 
     // The contents: for each body a letter, a one-byte count and a two-byte start, high byte first.
@@ -56,9 +56,9 @@ impl<'a> WritableBodies<'a> {
     {
         let counts = self.bodies.counts();
         let starts = self.starts();
-        for (i, letter) in b"TKDV".iter().enumerate() {
-            let [high, low] = (starts[i] as u16).to_be_bytes();
-            page.put_array([*letter, counts[i] as u8, high, low]);
+        for (letter, (count, start)) in LETTERS.iter().zip(counts.iter().zip(&starts)) {
+            let [high, low] = u16::try_from(*start).unwrap().to_be_bytes();
+            page.put_array([*letter, u8::try_from(*count).unwrap(), high, low]);
         }
     }
 
@@ -78,9 +78,7 @@ impl<'a> WritableBodies<'a> {
         ensures { FormWritten (bodies_in self.entry.bodies) page.old result page.new }
     {
         let length = self.length();
-        if page.len() < usize::from(length) {
-            return Err(Fault::Page.at(length));
-        }
+        base::check_room(page.len(), length)?;
         let mut writer = Writer::new(page);
         self.put(&mut writer);
         Ok(length)

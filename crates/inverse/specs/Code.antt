@@ -1,31 +1,37 @@
 -- What the code's arrays mean.
-use Rattle.std.specs.Prelude.{◌≡◌, ◌⊎◌, ◌≤◌, ◌<◌, Option, Some, None}
-use Rattle.base.specs.Words.{true, false, cond, List, ℕ, length, get_or}
+use Rattle.std.specs.Prelude.{◌≡◌, ◌≤◌, ◌<◌, Option, Some, None}
+use Rattle.base.specs.Words.{Option as Searched, none, some, true, false, cond, List, ℕ, length, get_or, first}
 use Rattle.term.specs.{Term.asymmetric, Term.is_key_for, Number.shape_of}
 use Rattle.submission.specs.{Record.terms, Record.kind_at, Record.y_at, Computed.are_inverse}
-use Rattle.inverse.specs.Computed.{inverse_of}
 
 -- the byte by which keys are chained, the last one of the name; what is no key is in no chain
 abbrev pub key_chain : List ℕ → ℕ → ℕ
 key_chain s n = cond (is_key_for asymmetric (shape_of (kind_at s n))) (y_at s n) 256
 
--- b is the number of an inverse of term n among the first i terms, and 255 stands for none
-pub record InverseAmong (s : List ℕ) (n i b : ℕ) : Type 0 where
-  pub is : (b ≡ 255) ⊎ ((b < i) × (are_inverse s n b ≡ true))
-  pub none : b ≡ 255 → (j : ℕ) → j < i → are_inverse s n j ≡ false
+-- o is the number of an inverse of term n among the first i terms, if there is one
+abbrev pub InverseAmong : List ℕ → ℕ → ℕ → Option ℕ → Type 0
+InverseAmong s n i None = (j : ℕ) → j < i → are_inverse s n j ≡ false
+InverseAmong s n i (Some j) = (j < i) × (are_inverse s n j ≡ true)
 
--- o is the number of an inverse of term k among the earlier terms, if there is one
+-- among the earlier terms
 abbrev pub EarlierInverse : List ℕ → ℕ → Option ℕ → Type 0
-EarlierInverse s k None = (j : ℕ) → j < k → are_inverse s k j ≡ false
-EarlierInverse s k (Some j) = (j < k) × (are_inverse s k j ≡ true)
+EarlierInverse s k o = InverseAmong s k k o
 
 -- l has for each of the first i terms its inverse among them
-pub record Found (s : List ℕ) (i : ℕ) (l : List ℕ) : Type 0 where
+pub record Found (s : List ℕ) (i : ℕ) (l : List (Option ℕ)) : Type 0 where
   pub within : i ≤ terms s
   pub long : length l ≡ 256
-  pub is : (n : ℕ) → n < i → InverseAmong s n i (get_or l n 0)
+  pub is : (n : ℕ) → n < i → InverseAmong s n i (get_or l n None)
 
--- l has for each term the number of its inverse, or 255 where none is listed
-pub record Inverses (s l : List ℕ) : Type 0 where
+-- the number of the inverse of term n, where one is listed: `inverse_of` has 255 for none
+abbrev pub found_of : Searched ℕ → Option ℕ
+found_of none = None
+found_of (some j) = Some j
+
+abbrev pub found_inverse : List ℕ → ℕ → Option ℕ
+found_inverse s n = found_of (first (are_inverse s n) (terms s))
+
+-- l has for each term the number of its inverse, where one is listed
+pub record Inverses (s : List ℕ) (l : List (Option ℕ)) : Type 0 where
   pub long : length l ≡ 256
-  pub is : (n : ℕ) → n < terms s → get_or l n 0 ≡ inverse_of s n
+  pub is : (n : ℕ) → n < terms s → get_or l n None ≡ found_inverse s n

@@ -9,15 +9,15 @@ ghost use Rattle.submission.specs.Record.{terms};
 ghost use Rattle.inverse.specs.Code.{key_chain, EarlierInverse, Found, Inverses};
 ghost use Rattle.inverse.specs.Calls.{InversesWritten};
 
-use base::{ByteChains, Fault, Refusal};
+use base::{ByteChains, Refusal, Writer};
 use submission::Table;
 
 // ---- The pass over the terms.
+// `Chained` and `Chaining` stand in the contracts: they grow with each number, so as a ghost field they would hold between no two writes.
 
 // Keys are chained by the last byte of their names.
 fn chain_key(table: Table, chains: &mut ByteChains, k: u8)
-    requires k_bound { k < 255 }
-    requires chaining { Chaining (key_chain table.bytes.now) k chains.old.before chains.old.latest }
+    requires { Chaining (key_chain table.bytes.now) k chains.old.before chains.old.latest }
     ensures { Chaining (key_chain table.entry.bytes.now) (k + 1) chains.new.before chains.new.latest }
 {
     let key = table.term(k);
@@ -35,39 +35,30 @@ fn earlier_inverse(table: Table, chains: &ByteChains, k: u8) -> Option<u8>
     if !key.is_key() {
         return None;
     }
-    let mut next = chains.before(k);
-    while let Some(j) = next {
-        let other = table.term(j);
-        if key.is_inverse_of(other) {
-            return Some(j);
-        }
-        next = chains.before(j);
-    }
-    None
+    chains.find_before(k, |j| key.is_inverse_of(table.term(j)))
 }
 
 // Notes the inverse of term k among the earlier terms, for both of them.
-fn note_inverse(table: Table, chains: &ByteChains, found: &mut [u8; 256], k: u8)
+#[tactic(auto, using(crate::proofs::NotedInverses::found_alone, crate::proofs::NotedInverses::found_pair))]
+fn note_inverse(table: Table, chains: &ByteChains, found: &mut [Option<u8>; 256], k: u8)
     requires k_bound { k < terms table.bytes.now }
     requires chained { Chained (key_chain table.bytes.now) (k + 1) chains.now.before }
     requires found { Found table.bytes.now k found.old }
     ensures { Found table.entry.bytes.now (k + 1) found.new }
 {
     let earlier = earlier_inverse(table, chains, k);
-    let Some(j) = earlier else {
-        found[usize::from(k)] = 255;
-        return;
-    };
-    found[usize::from(k)] = j;
-    found[usize::from(j)] = k;
+    found[usize::from(k)] = earlier;
+    if let Some(j) = earlier {
+        found[usize::from(j)] = Some(k);
+    }
 }
 
-// The number of each term's inverse, or 255 where none is listed.
-pub fn find(table: Table) -> [u8; 256]
+// The number of each term's inverse, where one is listed.
+pub fn find(table: Table) -> [Option<u8>; 256]
     ensures { Inverses table.entry.bytes.now result }
 {
     let n = table.terms();
-    let mut found = [255u8; 256];
+    let mut found = [None; 256];
     let mut chains = ByteChains::new();
     for k in 0..n {
         chain_key(table, &mut chains, k);
@@ -78,18 +69,18 @@ pub fn find(table: Table) -> [u8; 256]
 
 // ---- The call.
 
-// The inverses on the page, where it has room: check 11.
+// The inverses on the page, where it has room: check 11. A term that has none listed gets a byte 255.
 fn write_found(table: Table, page: &mut [u8]) -> Result<u16, Refusal>
     ensures { InversesWritten table.entry.bytes.now page.old result page.new }
 {
     let n = table.terms();
     let needed = u16::from(n);
-    let count = usize::from(n);
-    if page.len() < count {
-        return Err(Fault::Page.at(needed));
-    }
+    base::check_room(page.len(), needed)?;
     let found = find(table);
-    page[..count].copy_from_slice(&found[..count]);
+    let mut writer = Writer::new(page);
+    for inverse in &found[..usize::from(n)] {
+        writer.put(inverse.unwrap_or(255));
+    }
     Ok(needed)
 }
 

@@ -58,10 +58,10 @@ abbrev pub operands_of : List Node → ℕ → ℕ → Operands
 operands_of ns a b = record { left = node_of ns a; right = node_of ns b; key = node_of ns (node_of ns a).right }
 
 -- ---- what the machine's functions do
--- what looking for the node v finds, among those from a number on and below n
+-- what looking for the node v finds, among those from a number on and below n: the lowest that it is
 abbrev pub Finds : List Node → Node → ℕ → ℕ → Maybe ℕ → Type 0
 Finds ns v from n None = (k : ℕ) → from ≤ k → k < n → node_of ns k ≡ v → ⊥
-Finds ns v from n (Some i) = (i < n) × (node_of ns i ≡ v)
+Finds ns v from n (Some i) = (from ≤ i) × (i < n) × (node_of ns i ≡ v) × ((k : ℕ) → from ≤ k → k < i → node_of ns k ≡ v → ⊥)
 
 -- a node of this head is the word of this rule
 abbrev pub is_word : NodeHead → ℕ → Bool
@@ -74,7 +74,7 @@ parts_of_one v w = is_word v.head (rule_of (part left)) && (is_word w.head (rule
 
 -- keys of one name, one public and one private
 abbrev pub inverse_heads : NodeHead → NodeHead → Bool
-inverse_heads (Atom k) (Atom j) = are_inverse_kinds k (Some j)
+inverse_heads (Atom k) (Atom j) = are_inverse_kinds k j
 inverse_heads (Atom k) (Word r) = false
 inverse_heads (Word r) h = false
 

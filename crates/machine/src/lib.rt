@@ -4,29 +4,33 @@
 // tree, after one look through at most T + 1 + N nodes. Whether a name is stale takes one look at each term.
 #![tactic(auto)]
 
-ghost use Rattle.std.specs.Prelude.{◌≡◌, cond, ◌+◌, ◌≤◌, ◌<◌, length, get_or};
+ghost use Rattle.std.specs.Prelude.{◌≡◌, false, cond, ◌+◌, ◌≤◌, ◌<◌, get_or};
 ghost use Rattle.std.specs.Option.{unwrap_or};
 ghost use Rattle.base.specs.Words.{byte as byte_at};
-ghost use Rattle.term.specs.Code.{relation_is, Below};
+ghost use Rattle.term.specs.Code.{relation_is};
+ghost use Rattle.submission.specs.Code.{SubmissionRead};
+ghost use Rattle.program.specs.Computed.{bad_program};
 ghost use Rattle.submission.specs.Record.{terms as term_count, record_at, guess as guess_of, name_at};
 ghost use Rattle.program.specs.Code.{instruction_in};
 ghost use Rattle.machine.specs.Run.{signal as signal_of};
 ghost use Rattle.base.specs.Answer.{answer_of, done};
 ghost use Rattle.base.specs.Computed.{fails_if, answered};
 ghost use Rattle.machine.specs.Computed.{is_stale_name, run_answer};
-ghost use Rattle.machine.specs.Code.{node_for, node_of, operands_of, Finds, is_word, parts_of_one, inverse_nodes, joined_node, parted_node, cancelled_node, Valued, with_node, Placed, Executable, Executed, Ran, Runnable, Empty, TermNodes, TermsPut, Loaded, Started, RegisterNumbers, guess_node, records_in, treated, PartMarks, is_marked, SomeMarked, inverse_head, inverse_node, related};
+ghost use Rattle.machine.specs.Code.{node_for, node_of, operands_of, Finds, is_word, parts_of_one, inverse_nodes, joined_node, parted_node, cancelled_node, Valued, with_node, Placed, Executable, Executed, Ran, Runnable, Empty, TermsPut, Loaded, Started, RegisterNumbers, guess_node, related};
 
 mod checked;
+mod stale;
 
 use base::{Fault, Refusal, byte};
 pub use checked::CheckedProgram;
 use program::{Instruction, Test};
-use submission::{Submission, Table};
+use stale::ListedTerms;
+use submission::Submission;
 use term::{Kind, Relation, rules};
 
 // ---- Terms as nodes.
 
-// What makes a node: an atom of its kind, or a word of its rule, by its number.
+// What makes a node: an atom of its kind, or a word of its rule. The machine matches on the rule number, a rule of this project, so a rule is its number.
 #[derive(Clone, Copy, PartialEq, Eq)]
 pub enum Head {
     Atom(Kind),
@@ -41,14 +45,15 @@ pub struct Node {
     pub right: u16,
 }
 
-// The first `used` of the array: no two of them equal, each after the nodes that it is over.
+// Nodes: the first `used` of the array. It has a count beside it, since there is no heap and the array's size is fixed. The type asks nothing more;
+// of the nodes of a run it is proved that no two are equal and that each comes after the nodes that it is over.
 #[derive(Drop)]
 pub struct Nodes {
     pub items: [Node; 384],
     pub used: u16,
 }
 
-// The state: nodes, and registers, which hold nodes' numbers.
+// The state: nodes, and registers, which hold nodes' numbers; the first `used` of them, counted for the same reason.
 #[derive(Drop)]
 pub struct Machine {
     pub nodes: Nodes,
@@ -64,7 +69,7 @@ fn are_inverse(a: Node, b: Node) -> bool
     let (Head::Atom(x), Head::Atom(y)) = (a.head, b.head) else {
         return false;
     };
-    x.is_inverse_of(Some(y)) && a.left == b.left
+    x.is_inverse_of(y) && a.left == b.left
 }
 
 impl Node {
@@ -115,7 +120,8 @@ fn cancelled(inner: u8, x: Node, fits: bool) -> Option<u16>
     (x.is_word(inner) && fits).then_some(x.left)
 }
 
-// ---- The state, and one instruction.
+// ---- The state, and one instruction. A node's number is a u16, and that it is below 384 is asked where a node is looked up: a type for such numbers would
+// stand in every node and register.
 
 impl Nodes {
     // The node of this number.
@@ -146,12 +152,7 @@ impl Nodes {
         requires n_bound { n ≤ 384 }
         ensures { Finds self.now.items v from n result }
     {
-        for i in from..n {
-            if self.items[usize::from(i)] == v {
-                return Some(i);
-            }
-        }
-        None
+        (from..n).find(|i| self.items[usize::from(*i)] == v)
     }
 
     // The number of v: what it reduces to, or the node after its left operand that is v.
@@ -190,7 +191,7 @@ impl Machine {
         self.used += 1;
     }
 
-    // Executes one instruction: its result goes to the next register.
+    // Executes one instruction: its result goes to the next register. Document 01 names the form: the state goes by value, and is handed back.
     fn step(mut self, i: Instruction) -> Self
         requires { Executable self (instruction_in i) }
         ensures { Executed self (instruction_in i) result }
@@ -248,17 +249,19 @@ fn atom(kind: Kind, name: u16) -> Node
     }
 }
 
-// The node of a term's record. One of no kind stands for a plain atom, and check 3 refuses it.
+// The node of a term's record.
 fn node_of(submission: Submission, t: u8) -> Node
+    requires { t < term_count submission.bytes.now }
     ensures { result ≡ node_for (record_at submission.entry.bytes.now t) }
 {
-    let term = submission.table().term(t);
-    let kind = term.kind().unwrap_or(Kind::Plain);
-    if kind.is_atom() {
+    let table = submission.table();
+    let term = table.term(t);
+    let kind = table.kind(t);
+    let Some(rule) = kind.rule() else {
         return atom(kind, term.name());
-    }
+    };
     Node {
-        head: Head::Word(kind.rule().unwrap_or(rules::RULES)),
+        head: Head::Word(rule),
         left: u16::from(term.x),
         right: u16::from(term.second_part()),
     }
@@ -268,8 +271,7 @@ fn node_of(submission: Submission, t: u8) -> Node
 fn guess_node(submission: Submission, name: u16) -> Node
     ensures { result ≡ guess_node submission.entry.bytes.now name }
 {
-    let guess = submission.table().term(submission.claim.guess);
-    atom(guess.kind().unwrap_or(Kind::Plain), name)
+    atom(submission.table().kind(submission.claim.guess), name)
 }
 
 // The name of the guess.
@@ -294,7 +296,7 @@ impl Machine {
         }
     }
 
-    // Puts the terms, each under its own number.
+    // Puts the terms, each under its own number: a `zip` of the array and the numbers would show this less.
     fn put_terms(&mut self, submission: Submission)
         requires { Empty self.old }
         ensures { TermsPut submission.entry.bytes.now self.new }
@@ -306,7 +308,7 @@ impl Machine {
         self.nodes.used = u16::from(n);
     }
 
-    // Puts the knowledge into the first registers.
+    // Puts the knowledge into the first registers, entry i into register i: by its number, as the terms.
     fn put_knowledge(&mut self, submission: Submission)
         requires { TermsPut submission.bytes.now self.old }
         ensures { Loaded submission.entry.bytes.now self.new }
@@ -330,112 +332,6 @@ impl Machine {
         let found = self.nodes.find(v, 0, self.nodes.used);
         self.place(v, found);
         found
-    }
-}
-
-// ---- Stale names.
-
-impl Nodes {
-    // Marks the parts of node t, keys among them, where it is marked.
-    fn mark_parts(&self, marks: &mut [bool; 256], t: u16)
-        requires t_bound { t < 256 }
-        requires below { Below 256 (records_in self.now.items t) }
-        ensures { marks.new ≡ treated (records_in self.now.items) t marks.old }
-    {
-        if !marks[usize::from(t)] {
-            return;
-        }
-        let v = self.node(t);
-        let Head::Word(_) = v.head else {
-            return;
-        };
-        marks[usize::from(v.left)] = true;
-        marks[usize::from(v.right)] = true;
-    }
-
-    // True at each term from `lowest` on that is part of the knowledge. It goes from the last term down: parts are earlier terms, so one look at each is
-    // enough, however many messages share it, and no term before `lowest` has one from there on as a part.
-    fn known_parts(&self, table: Table, lowest: u16) -> [bool; 256]
-        requires { TermNodes table.bytes.now self.now.items }
-        ensures { PartMarks table.entry.bytes.now lowest result }
-    {
-        let mut marks = deduction::knowledge_marks(table.bytes);
-        let n = u16::from(table.terms());
-        for i in (lowest..n).rev() {
-            self.mark_parts(&mut marks, i);
-        }
-        marks
-    }
-
-    // Whether one of these two terms, neither before `lowest`, is part of the knowledge.
-    fn is_known_part(
-        &self,
-        table: Table,
-        found: Option<u16>,
-        other: Option<u16>,
-        lowest: u16,
-    ) -> bool
-        requires { TermNodes table.bytes.now self.now.items }
-        ensures { SomeMarked table.entry.bytes.now lowest found other result }
-    {
-        let marks = self.known_parts(table, lowest);
-        is_marked(&marks, found) || is_marked(&marks, other)
-    }
-
-    // The number of the inverse of v, whose own number is `found`; a node that is no key is its own inverse here.
-    fn find_inverse(&self, v: Node, found: Option<u16>, n: u16) -> Option<u16>
-        requires n_bound { n ≤ 384 }
-        requires found_value { Finds self.now.items v 0 n found }
-        ensures { Finds self.now.items (inverse_node v) 0 n result }
-    {
-        let head = inverse_head(v.head);
-        if head == v.head {
-            return found;
-        }
-        let inverse = Node {
-            head,
-            left: v.left,
-            right: v.right,
-        };
-        self.find(inverse, 0, n)
-    }
-
-    // Whether the guess's atom v, which is term `found`, or its inverse is part of the knowledge. The guess's own name is never stale. What is
-    // not listed is part of nothing.
-    fn is_stale(&self, submission: Submission, v: Node, found: Option<u16>) -> bool
-        requires term_nodes { TermNodes submission.bytes.now self.now.items }
-        requires v_value { v ≡ guess_node submission.bytes.now v.left }
-        requires found_value { Finds self.now.items v 0 (term_count submission.bytes.now) found }
-        ensures { result ≡ is_stale_name submission.entry.bytes.now v.left }
-    {
-        if right_name(submission) == v.left {
-            return false;
-        }
-        let n = u16::from(submission.table().terms());
-        let other = self.find_inverse(v, found, n);
-        let lowest = found.unwrap_or(n).min(other.unwrap_or(n));
-        if n <= lowest {
-            return false;
-        }
-        self.is_known_part(submission.table(), found, other, lowest)
-    }
-}
-
-fn is_marked(marks: &[bool; 256], found: Option<u16>) -> bool
-    requires { length marks.now ≡ 256 }
-    ensures { result ≡ is_marked marks.now found }
-{
-    found.is_some_and(|k| k < 256 && marks[usize::from(k)])
-}
-
-// A key's inverse; any other head is its own.
-fn inverse_head(head: Head) -> Head
-    ensures { result ≡ inverse_head head }
-{
-    match head {
-        Head::Atom(Kind::Public) => Head::Atom(Kind::Private),
-        Head::Atom(Kind::Private) => Head::Atom(Kind::Public),
-        _ => head,
     }
 }
 
@@ -466,9 +362,11 @@ fn tried(checked: CheckedProgram, name: u16) -> Result<u16, Refusal>
     let mut m = Machine::empty();
     let guess = guess_node(submission, name);
     let found = m.start(submission, guess);
-    if m.nodes.is_stale(submission, guess, found) {
-        return Err(Fault::Stale.at(0));
-    }
+    let terms = ListedTerms {
+        submission,
+        nodes: &m.nodes,
+    };
+    Fault::Stale.at(0).when(terms.is_stale(guess, found))?;
     let m = m.after(checked.program);
     Ok(m.signal(checked.relation, program::test_at(checked.program)))
 }
@@ -483,12 +381,15 @@ pub fn run(s: &[u8], name: u16, program: &[u8]) -> Result<u16, Refusal>
 // ---- The registers, with the right guess.
 
 // For each register of a program, run with the right guess, the number of its term where that is listed, and else a number that is not below T.
-pub fn register_numbers(checked: CheckedProgram) -> [u16; 256]
-    ensures { RegisterNumbers checked.entry.submission.bytes.now checked.entry.program.now result }
+// It asks what it asked at first, so a caller that has the two facts needs no value.
+pub fn register_numbers(s: &[u8], program: &[u8]) -> [u16; 256]
+    requires submission_read { SubmissionRead s.now }
+    requires program_value { bad_program s.now program.now ≡ false }
+    ensures { RegisterNumbers s.now program.now result }
 {
-    let submission = checked.submission;
+    let submission = Submission::of(s);
     let mut m = Machine::empty();
     let guess = guess_node(submission, right_name(submission));
     m.start(submission, guess);
-    m.after(checked.program).registers
+    m.after(program).registers
 }

@@ -8,11 +8,15 @@ use Rattle.program.specs.declared.Program.{Program as ProgramRead}
 use Rattle.term.specs.declared.Relation.{Relation as RelationGiven}
 use Rattle.term.specs.{Term.Relation, Code.relation_is}
 use Rattle.program.specs.Program.{relation_of, Instruction, Program, test_at}
-use Rattle.program.specs.Computed.{bad_program}
+use Rattle.program.specs.Computed.{bad_test, bad_program}
 
 abbrev pub relation_in : Maybe RelationGiven → Option Relation
 relation_in None = none
 relation_in (Some r) = some (relation_is r)
+
+-- the relation that a test over n registers asks for; none where it is bad
+abbrev pub asked_by : ℕ → Instruction → Option Relation
+asked_by n t = cond (bad_test n t) none (relation_of t.rule)
 
 -- the relation that the test of a program asks for; none where check 13 fails
 abbrev pub asked : List ℕ → List ℕ → Option Relation

@@ -2,26 +2,27 @@
 // Promises: every function is total, and its answer is what the definitions of specs/ give.
 #![tactic(auto)]
 
-ghost use Rattle.std.specs.Prelude.{◌≡◌, ◌++◌, ◌+◌, ◌*◌, ◌≤◌, ◌<◌, length, drop};
+ghost use Rattle.std.specs.Prelude.{◌≡◌, ◌++◌, ◌+◌, ◌*◌, ◌≤◌, ◌<◌, length, drop, ltb};
 ghost use Rattle.std.proofs.lemmas.List.Edits.{sets};
 ghost use Rattle.base.specs.Words.{byte as byte_at};
 ghost use Rattle.term.specs.Code.{relation_is};
 ghost use Rattle.program.specs.Program.{row_of, relation_of, instruction_bytes, bytes_of, program_length, instruction_at, test_at, operand};
-ghost use Rattle.program.specs.Code.{relation_in, asked, asks, instruction_in, instructions_in, test_in, program_in};
+ghost use Rattle.program.specs.Code.{relation_in, asked, asked_by, asks, instruction_in, instructions_in, test_in, program_in};
 ghost use Rattle.base.specs.Computed.{any, fails_if};
 ghost use Rattle.base.specs.Code.{check_of};
-ghost use Rattle.program.specs.Computed.{good_registers, bad_instruction, bad_test, bad_program};
+ghost use Rattle.program.specs.Computed.{bad_instruction, bad_program};
 
 use base::{Fault, Refusal, Writer, byte, bytes_at};
 use term::{Relation, rules};
 
-// ---- The tests, as specs/Program.antt lists them.
+// ---- The tests, as specs/Program.antt lists them. Both name two registers.
 
 pub const EQUAL: u8 = b'=';
 
 pub const INVERSE: u8 = b'i';
 
-// What a test asks of the registers' terms, where it is one.
+// What a test asks of the registers' terms, where it is one. A letter is read and written by functions: `Relation` is the crate `term`'s, which knows
+// no letters, so neither `TryFrom<u8>` for it nor `From<Relation>` for a byte can be written here.
 #[tactic(auto, unfolding(crate::specs::Program::relation_of))]
 pub fn relation_of(letter: u8) -> Option<Relation>
     ensures { relation_in result ≡ relation_of letter }
@@ -43,19 +44,9 @@ pub fn letter_of(relation: Relation) -> u8
     }
 }
 
-// How many registers a test names.
-fn registers_of(relation: Relation) -> u8
-    ensures { result ≡ (row_of (relation_is relation)).registers }
-{
-    match relation {
-        Relation::Equal => 2,
-        Relation::Inverse => 2,
-    }
-}
-
 // ---- Programs.
 
-// One instruction: a rule and the registers of its operands.
+// One instruction: a rule and the registers of its operands. The rule is a byte, since no check has passed what is read.
 #[derive(Clone, Copy, PartialEq, Eq)]
 pub struct Instruction {
     pub rule: u8,
@@ -68,15 +59,11 @@ impl Instruction {
     pub fn operand(self) -> u8
         ensures { result ≡ operand (instruction_in self) }
     {
-        if rules::has_one(self.rule) {
-            self.left
-        } else {
-            self.right
-        }
+        rules::second_operand(self.rule, self.left, self.right)
     }
 }
 
-// The test that ends a program: a letter and two registers.
+// The test that ends a program: a letter and two registers. The letter is a byte, since no check has passed what is read.
 #[derive(Clone, Copy, PartialEq, Eq)]
 pub struct Test {
     pub letter: u8,
@@ -100,7 +87,7 @@ pub fn program_length(n: u8) -> u16
 
 // ---- Reading a program's bytes.
 
-// Instruction i.
+// Instruction i. Instructions are read at their numbers, as what stands past the end reads as 0, and chunks of the bytes would leave that out.
 #[tactic(auto, unfolding(crate::specs::Program::instruction_at))]
 pub fn instruction_at(program: &[u8], i: u8) -> Instruction
     ensures { instruction_in result ≡ instruction_at program.now i }
@@ -142,7 +129,7 @@ pub fn write(program: Program, page: &mut [u8])
 {
     let count = program.instructions.len();
     let test = program.test;
-    page[0] = count as u8;
+    page[0] = u8::try_from(count).unwrap();
     write_instructions(program.instructions, &mut page[1..]);
     let mut writer = Writer {
         buffer: page,
@@ -153,17 +140,11 @@ pub fn write(program: Program, page: &mut [u8])
 
 // ---- Check 13.
 
-// Whether the registers named are among the first `written`, and an unused byte is 0.
-fn are_registers_good(written: usize, one: bool, left: u8, right: u8) -> bool
-    ensures { result ≡ good_registers written one left right }
+// Whether the register is among the first `written`.
+fn is_written(register: u8, written: usize) -> bool
+    ensures { result ≡ ltb register written }
 {
-    if written <= usize::from(left) {
-        return false;
-    }
-    if one {
-        return right == 0;
-    }
-    usize::from(right) < written
+    usize::from(register) < written
 }
 
 // Whether the instruction is bad, with the first `written` registers written before it.
@@ -171,21 +152,13 @@ fn are_registers_good(written: usize, one: bool, left: u8, right: u8) -> bool
 fn is_instruction_bad(i: Instruction, written: usize) -> bool
     ensures { result ≡ bad_instruction written (instruction_in i) }
 {
-    if !rules::is_rule(i.rule) {
+    if !rules::is_rule(i.rule) || !is_written(i.left, written) {
         return true;
     }
-    !are_registers_good(written, rules::has_one(i.rule), i.left, i.right)
-}
-
-// Whether the test is bad, with the first `written` registers written.
-#[tactic(auto, unfolding(crate::specs::Computed::bad_test))]
-fn is_test_bad(t: Test, written: usize) -> bool
-    ensures { result ≡ bad_test written (test_in t) }
-{
-    let Some(relation) = relation_of(t.letter) else {
-        return true;
-    };
-    !are_registers_good(written, registers_of(relation) == 1, t.left, t.right)
+    if rules::has_one(i.rule) {
+        return i.right != 0;
+    }
+    !is_written(i.right, written)
 }
 
 // Whether some instruction is bad, where `known` registers hold the knowledge.
@@ -198,17 +171,29 @@ fn has_bad_instruction(program: &[u8], known: u8) -> bool
     })
 }
 
-// Row 13 of the verdicts. An empty program is not of its length either.
-fn is_program_bad(s: &[u8], program: &[u8]) -> bool
-    ensures { result ≡ bad_program s.now program.now }
+// What the test asks, where it is good with the first `written` registers written.
+fn asked_by(t: Test, written: usize) -> Option<Relation>
+    ensures { relation_in result ≡ asked_by written (test_in t) }
+{
+    if !is_written(t.left, written) || !is_written(t.right, written) {
+        return None;
+    }
+    relation_of(t.letter)
+}
+
+// What the program's test asks, where the program is good: row 13 of the verdicts. An empty program is not of its length either.
+fn asked(s: &[u8], program: &[u8]) -> Option<Relation>
+    ensures { relation_in result ≡ asked s.now program.now }
 {
     let n = byte(program, 0);
     if 128 < n || program.len() != usize::from(program_length(n)) {
-        return true;
+        return None;
     }
     let known = submission::entries(s);
-    let written = usize::from(known) + 1 + usize::from(n);
-    has_bad_instruction(program, known) || is_test_bad(test_at(program), written)
+    if has_bad_instruction(program, known) {
+        return None;
+    }
+    asked_by(test_at(program), usize::from(known) + 1 + usize::from(n))
 }
 
 // Check 13, and what the program's test asks where it passes.
@@ -216,8 +201,5 @@ pub fn check_program(s: &[u8], program: &[u8]) -> Result<Relation, Refusal>
     ensures answer { check_of result ≡ fails_if (bad_program s.now program.now) 13 0 }
     ensures asks { asks result ≡ asked s.now program.now }
 {
-    if is_program_bad(s, program) {
-        return Err(Fault::Program.at(0));
-    }
-    relation_of(test_at(program).letter).ok_or(Fault::Program.at(0))
+    asked(s, program).ok_or(Fault::Program.at(0))
 }

@@ -12,6 +12,7 @@ fn print_verdict(rt: &impl Print, s: &[u8]) -> io::Result<()> {
 
 // The verdicts on the submissions of a bundle, up to one that is cut short.
 fn print_all(rt: &impl Print, bundle: &[u8]) -> io::Result<()> {
+    // A walk by pattern, and no `for`: where a submission ends stands in the bytes before it, so no iterator of the library cuts the bundle.
     let mut rest = bundle;
     while let [high, low, after @ ..] = rest {
         let length = usize::from(u16::from_be_bytes([*high, *low]));

@@ -6,20 +6,18 @@ use mathlib.Core.List.{List, [], ◌∷◌}
 use mathlib.Core.Option.{some}
 use Prim.Native.Nat.{ℕ, ◌+◌, ◌≤◌, ◌<◌}
 use native.Mathlib.Omega.{arith}
-use native.Mathlib.Numerals.{add-one}
-use native.Mathlib.Nat.{le_antisymm}
 use lib.Dec.{eqb, ltb}
 use lib.ListN.{get_or}
 use mir.Syntax.{w8}
 use mir.Val.{Fits}
-use Rattle.base.specs.{Words.byte, Words.first, Answer.Wrote, Code.check_of, Computed.fails_at}
-use Rattle.std.specs.Prelude.{Result, Ok}
+use Rattle.base.specs.{Words.byte, Words.first, Code.Wrote, Code.check_of, Computed.fails_at}
+use Rattle.std.specs.Prelude.{Result, Ok, Option as Maybe, Some, None, MatchOption}
 use Rattle.base.specs.declared.refusal.Refusal.{Refusal}
 use Rattle.base.specs.declared.writer.Writer.{Writer}
-use Rattle.base.proofs.{Order.lt_or_ge, Says.denies, Says.none_fails, AnswerLaws.at_passes, PutLaws.wrote_none, PutLaws.wrote_then}
+use Rattle.base.proofs.{Order.lt_or_ge, Find.FoundIn, Says.denies, Says.none_fails, AnswerLaws.at_passes}
 use Rattle.term.specs.{Code.relation_is, Number.has_one}
 use Rattle.term.specs.declared.Relation.{Relation as RelationGiven}
-use Rattle.submission.specs.{Record.terms, Record.entries, Code.SubmissionRead, Code.way_is, Code.range_is, Code.row_is, Code.IsClaim, Check.row}
+use Rattle.submission.specs.{Record.terms, Record.entries, Code.SubmissionRead, Code.way_is, Code.range_is, Code.IsRow, Code.IsClaim, Check.row}
 use Rattle.submission.specs.declared.Range.{Range as RangeRead}
 use Rattle.submission.specs.declared.Row.{Row as RowRead}
 use Rattle.submission.specs.declared.Way.{Way as WayRead}
@@ -31,22 +29,28 @@ use Rattle.program.specs.{Program.relation_of, Program.instruction_at, Program.t
 use Rattle.program.proofs.Theory.Check13.{program_iff, right_fits}
 use Rattle.machine.specs.Code.{RegisterNumbers}
 use Rattle.machine.proofs.Theory.StartState.{facts}
-use Rattle.readback.specs.ReadBack.{number, step_read, steps_read, way_from, way_read, verifying_read, companion_read, claim_read}
+use Rattle.readback.specs.ReadBack.{number, step_read, way_from, way_read, verifying_read, companion_read, claim_read}
 use Rattle.readback.specs.Computed.{off_table}
 use Rattle.readback.specs.Code.{Numbered}
 use Rattle.readback.proofs.Theory.ReadBackAnswer.{says_off_table, number_is, listed_on}
 
 -- ---- check 17: v terms and n registers were counted
-module _ {s P l : List ℕ} {t v n : ℕ} (z : RegisterNumbers s P l) (te : t ≡ terms s) (ve : v ≡ t) (ne : n ≡ written s (byte P 0)) {k r : ℕ} (ke : k ≡ r) (b : r < n) where
-  pub off_found : v ≤ get_or l k 0 → off_table s P r ≡ true
-  off_found c = (says_off_table s P r).1 (λ j m h. z.unlisted r (omega arith) (rw (← ke, ← te, ← ve) c) j m (sym h))
+module _ {s P l : List ℕ} {t v n : ℕ} (z : RegisterNumbers s P l) (te : t ≡ terms s) (ve : v ≡ t) (ne : n ≡ written s (byte P 0)) where
+  off_found : (r : ℕ) → r < n → v ≤ get_or l r 0 → off_table s P r ≡ true
+  off_found r b c = (says_off_table s P r).1 (λ j m h. z.unlisted r (omega arith) (rw (← te, ← ve) c) j m (sym h))
 
-  pub on_found : get_or l k 0 < v → off_table s P r ≡ false
-  on_found c = let d : get_or l r 0 < terms s = rw (← ke, ← te, ← ve) c in listed_on s P r (get_or l r 0) d (sym (z.listed r (omega arith) d))
+  on_found : (r : ℕ) → r < n → get_or l r 0 < v → off_table s P r ≡ false
+  on_found r b c = let d : get_or l r 0 < terms s = rw (← te, ← ve) c in listed_on s P r (get_or l r 0) d (sym (z.listed r (omega arith) d))
 
--- there are less than 256 registers
-pub register_in : {s : List ℕ} (P : List ℕ) → SubmissionRead s → bad_program s P ≡ false → {n r k : ℕ} → n ≡ written s (byte P 0) → k ≡ r → r < n → k < 256
-register_in {s} P u g e f l = omega (arith, e, (facts u).read.entries_most, ((program_iff s P).0 g).few)
+  -- the first whose number is none, as `find` gives it
+  pub off_first : (o : Maybe ℕ) →
+      MatchOption o ((k : ℕ) → 0 ≤ k → k < n → get_or l k 0 < v) (λ i. (0 ≤ i) × (i < n) × (v ≤ get_or l i 0) × ((k : ℕ) → 0 ≤ k → k < i → get_or l k 0 < v)) → FoundIn (off_table s P) n o
+  off_first None h = λ k a b. on_found k b (h k a b)
+  off_first (Some i) h = let (a, b, c, f) = h in (a, b, off_found i b c, λ k x y. on_found k (omega arith) (f k x y))
+
+-- there are at most 256 registers
+pub few_registers : {s : List ℕ} (P : List ℕ) → SubmissionRead s → bad_program s P ≡ false → written s (byte P 0) ≤ 256
+few_registers {s} P u g = omega (arith, (facts u).read.entries_most, ((program_iff s P).0 g).few)
 
 -- the registers' numbers, where check 17 passed
 pub all_numbered : {s P l : List ℕ} {T : Type 0} {u : Result T Refusal} {x : T} → SubmissionRead s → bad_program s P ≡ false → RegisterNumbers s P l → check_of u ≡ fails_at 17 (first (off_table s P) (written s (byte P 0))) → u ≡ Ok x → Numbered s P l
@@ -120,27 +124,14 @@ module _ {s P l : List ℕ} (z : Numbered s P l) where
     pub test_number : get_or l t.right 0 < 256
     test_number = byte_number t.right test_below
 
-    pub claim_put : {a a' : Writer} {step n m : ℕ} (ρ : RelationGiven) (w : WayRead) (x : RowRead) {c : Claim} {u v : RangeRead} → relation_of (test_at P).rule ≡ some (relation_is ρ) →
-        way_is w ≡ way_from (some (relation_is ρ)) (eqb t.left (entries s)) (ltb (entries s) t.right) → row_is x ≡ row (way_is w) → IsClaim s c → u ≡ x.step → v ≡ x.companion →
+    pub claim_put : {a a' : Writer} {step n m d : ℕ} (ρ : RelationGiven) (w : WayRead) (x : RowRead) {c : Claim} {u v : RangeRead} → relation_of (test_at P).rule ≡ some (relation_is ρ) →
+        way_is w ≡ way_from (some (relation_is ρ)) (eqb t.left (entries s)) (ltb (entries s) t.right) → IsRow x (way_is w) → d ≡ (row (way_is w)).letter → IsClaim s c → u ≡ x.step → v ≡ x.companion →
         step ≡ verifying_read s (test_in t) (range_is u) → n ≡ get_or l t.right 0 → m ≡ companion_read s t.right n (range_is v) →
-        Wrote a (c.guess ∷ step ∷ x.letter ∷ m ∷ []) a' → Wrote a (claim_read s P) a'
-    claim_put {step = step} {n} {m} ρ w x {c} re we xe ce ue ve se ne me put =
+        Wrote a (c.guess ∷ step ∷ d ∷ m ∷ []) a' → Wrote a (claim_read s P) a'
+    claim_put {step = step} {n} {m} ρ w x {c} re we xe de ce ue ve se ne me put =
         let r : relation_of t.letter ≡ some (relation_is ρ) = ap (λ y. relation_of y.rule) e ∙ re in
         let way : way_read s (test_in t) ≡ way_is w = ap (λ o. way_from o (eqb t.left (entries s)) (ltb (entries s) t.right)) r ∙ sym we in
         let number-is' : n ≡ number s P t.right = ne ∙ z.is t.right test_below in
-        let first : verifying_read s (test_in t) (row (way_is w)).step ≡ step = ap (verifying_read s (test_in t)) (sym (ap range_is ue ∙ ap (λ y. y.step) xe)) ∙ sym se in
-        let second : companion_read s t.right n (row (way_is w)).companion ≡ m = ap (companion_read s t.right n) (sym (ap range_is ve ∙ ap (λ y. y.companion) xe)) ∙ sym me in
-        let letter : (row (way_is w)).letter ≡ x.letter = sym (ap (λ y. y.letter) xe) in
-        rw (← e, way, first, letter, ← number-is', second, ← ce.guessed) put
-
--- ---- all steps
-pub steps_none : {w : Writer} (s P : List ℕ) → Wrote w (steps_read s P 0) w
-unfolding steps_read
-steps_none s P = wrote_none
-
-pub steps_more : {u v w : Writer} (s P : List ℕ) (n : ℕ) → Wrote u (steps_read s P n) v → Wrote v (step_read s P n) w → Wrote u (steps_read s P (n + 1)) w
-unfolding steps_read
-steps_more s P n p q = rw add-one (wrote_then p q)
-
-pub steps_all : {u v : Writer} (s P : List ℕ) (m n : ℕ) → n ≡ byte P 0 → m ≤ n → n ≤ m → Wrote u (steps_read s P m) v → Wrote u (steps_read s P (byte P 0)) v
-steps_all s P m n e l h p = rw (← e, ← (le_antisymm l h)) p
+        let first : verifying_read s (test_in t) (row (way_is w)).step ≡ step = ap (verifying_read s (test_in t)) (sym (ap range_is ue ∙ xe.step)) ∙ sym se in
+        let second : companion_read s t.right n (row (way_is w)).companion ≡ m = ap (companion_read s t.right n) (sym (ap range_is ve ∙ xe.companion)) ∙ sym me in
+        rw (← e, way, first, ← de, ← number-is', second, ← ce.guessed) put

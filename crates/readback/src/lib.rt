@@ -2,7 +2,7 @@
 // Promises: every function is total, for all bytes, and its answer and the page's later bytes are what the definitions of specs/ give.
 #![tactic(auto)]
 
-ghost use Rattle.std.specs.Prelude.{◌≡◌};
+ghost use Rattle.std.specs.Prelude.{◌≡◌, ◌≤◌};
 ghost use Rattle.base.specs.Words.{first, byte as byte_at};
 ghost use Rattle.base.specs.Code.{check_of};
 ghost use Rattle.base.specs.Computed.{fails_at, fails_if};
@@ -24,8 +24,10 @@ use readable::Readable;
 // ---- Checks 17 and 18.
 
 // How many registers a program writes and begins with.
+#[tactic(auto, using(crate::proofs::ReadReturns::few_registers))]
 fn register_count(checked: CheckedProgram) -> u16
-    ensures { result ≡ written checked.entry.submission.bytes.now (byte_at checked.entry.program.now 0) }
+    ensures few { result ≤ 256 }
+    ensures count { result ≡ written checked.entry.submission.bytes.now (byte_at checked.entry.program.now 0) }
 {
     let known = submission::entries(checked.submission.bytes);
     u16::from(known) + 1 + u16::from(byte(checked.program, 0))
@@ -37,13 +39,8 @@ fn check_listed(checked: CheckedProgram, numbers: &[u16; 256]) -> Result<(), Ref
     ensures { check_of result ≡ fails_at 17 (first (off_table checked.entry.submission.bytes.now checked.entry.program.now) (written checked.entry.submission.bytes.now (byte_at checked.entry.program.now 0))) }
 {
     let terms = u16::from(submission::terms(checked.submission.bytes));
-    let registers = register_count(checked);
-    for r in 0..registers {
-        if terms <= numbers[usize::from(r)] {
-            return Err(Fault::OffTable.at(r));
-        }
-    }
-    Ok(())
+    Fault::OffTable
+        .at_first((0..register_count(checked)).find(|r| terms <= numbers[usize::from(*r)]))
 }
 
 // Whether the test's first register is a knowledge register, or both are the guess's.
@@ -58,10 +55,9 @@ fn is_unclaimed(checked: CheckedProgram, t: Test) -> bool
 fn check_claimed(checked: CheckedProgram) -> Result<(), Refusal>
     ensures { check_of result ≡ fails_if (no_claim checked.entry.submission.bytes.now (test_at checked.entry.program.now)) 18 0 }
 {
-    if is_unclaimed(checked, program::test_at(checked.program)) {
-        return Err(Fault::NoClaim.at(0));
-    }
-    Ok(())
+    Fault::NoClaim
+        .at(0)
+        .when(is_unclaimed(checked, program::test_at(checked.program)))
 }
 
 // ---- The call.
@@ -75,10 +71,11 @@ fn bodies_length(n: u8) -> u16
 
 // Writes the derivation and then the claim of a program over the submission's terms, knowledge and guess to the page's start, and answers
 // their length; or the refusal of the first of checks 1 to 5, 13, 17, 18 and 11 that fails. Only an acceptance writes.
+#[tactic(auto, unfolding(crate::specs::Computed::read_back_answer))]
 pub fn read_back(s: &[u8], program: &[u8], page: &mut [u8]) -> Result<u16, Refusal>
     ensures { BodiesWritten s.now program.now page.old result page.new }
 {
     let checked = CheckedProgram::read(s, program)?;
-    let numbers = machine::register_numbers(checked);
+    let numbers = machine::register_numbers(checked.submission.bytes, checked.program);
     Readable::read(checked, &numbers)?.write(page)
 }

@@ -1,7 +1,7 @@
 // A program that can be read back, and the bodies that are written from it.
 ghost use Rattle.std.specs.Prelude.{◌≡◌, false, cond, eqb, ltb, ◌+◌, ◌<◌, IfOk, get_or};
 ghost use Rattle.std.proofs.Math.Option.{some};
-ghost use Rattle.base.specs.Answer.{Wrote};
+ghost use Rattle.base.specs.Code.{Wrote};
 ghost use Rattle.base.specs.Words.{first, byte as byte_at};
 ghost use Rattle.base.specs.Code.{check_of};
 ghost use Rattle.base.specs.Computed.{fails_at, fails_if, and_then};
@@ -19,7 +19,7 @@ ghost use Rattle.readback.specs.Computed.{off_table, no_claim};
 ghost use Rattle.readback.specs.Code.{Claimable};
 ghost use Rattle.readback.specs.Calls.{BodiesWritten};
 
-use base::{Fault, Refusal, Writer, byte};
+use base::{Refusal, Writer, byte};
 use machine::CheckedProgram;
 use program::{Instruction, Test};
 use submission::{KNOWLEDGE_STEP, Range, Way};
@@ -51,7 +51,7 @@ impl<'a> Readable<'a> {
         requires { get_or self.numbers.now r 0 < 256 }
         ensures { result ≡ get_or self.entry.numbers.now r 0 }
     {
-        self.numbers[usize::from(r)] as u8
+        u8::try_from(self.numbers[usize::from(r)]).unwrap()
     }
 
     // The number of the second premise; 0 where the rule has one.
@@ -75,7 +75,7 @@ impl<'a> Readable<'a> {
         let p = self.number(x.left);
         let q = self.second_number(x);
         let conclusion = self.number(result);
-        page.put_all(&[x.rule, p, q, conclusion]);
+        page.put_array([x.rule, p, q, conclusion]);
     }
 
     fn put_steps(self, page: &mut Writer)
@@ -87,7 +87,7 @@ impl<'a> Readable<'a> {
         }
     }
 
-    // The step whose result register r holds.
+    // The step whose result register r holds. Where it holds none this is 0, as the definition reads it.
     fn step_of(self, r: u8) -> u8
         ensures { result ≡ step_of self.entry.checked.submission.bytes.now r }
     {
@@ -95,7 +95,7 @@ impl<'a> Readable<'a> {
         r.saturating_sub(known).saturating_sub(1)
     }
 
-    // The same, or KNOWLEDGE_STEP where r holds an entry of the knowledge.
+    // The same, or KNOWLEDGE_STEP where r holds an entry of the knowledge: the number that the claim's record has for no step.
     fn step_or_knowledge(self, r: u8) -> u8
         ensures { result ≡ cond (ltb r (entries self.entry.checked.submission.bytes.now)) knowledge_step (step_of self.entry.checked.submission.bytes.now r) }
     {
@@ -119,7 +119,7 @@ impl<'a> Readable<'a> {
         }
     }
 
-    // The claim's step, by its range.
+    // The claim's step, by its range, a word of the table of ways. It and `companion` are two: one function would take four numbers, one for each range.
     fn verifying(self, t: Test, range: Range) -> u8
         ensures { result ≡ verifying_read self.entry.checked.submission.bytes.now (test_in t) (range_is range) }
     {
@@ -131,7 +131,7 @@ impl<'a> Readable<'a> {
         }
     }
 
-    // The companion, by its range; n numbers the term of the second register r.
+    // The companion, by its range, likewise; n numbers the term of the second register r.
     fn companion(self, r: u8, n: u8, range: Range) -> u8
         ensures { result ≡ companion_read self.entry.checked.submission.bytes.now r n (range_is range) }
     {
@@ -148,22 +148,22 @@ impl<'a> Readable<'a> {
         ensures { Wrote page.old (claim_read self.entry.checked.submission.bytes.now self.entry.checked.program.now) page.new }
     {
         let t = program::test_at(self.checked.program);
-        let row = self.way(t).row();
+        let way = self.way(t);
+        let row = way.row();
         let guess = self.checked.submission.claim.guess;
         let step = self.verifying(t, row.step);
         let n = self.number(t.right);
         let companion = self.companion(t.right, n, row.companion);
-        page.put_all(&[guess, step, row.letter, companion]);
+        page.put_array([guess, step, way.letter(), companion]);
     }
 
     // Writes the two bodies, where the page has room: check 11.
+    #[tactic(auto, unfolding(crate::specs::Computed::read_back_answer))]
     pub fn write(self, page: &mut [u8]) -> Result<u16, Refusal>
         ensures { BodiesWritten self.entry.checked.submission.bytes.now self.entry.checked.program.now page.old result page.new }
     {
         let needed = crate::bodies_length(byte(self.checked.program, 0));
-        if page.len() < usize::from(needed) {
-            return Err(Fault::Page.at(needed));
-        }
+        base::check_room(page.len(), needed)?;
         let mut writer = Writer::new(page);
         self.put_steps(&mut writer);
         self.put_claim(&mut writer);

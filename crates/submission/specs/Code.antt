@@ -1,6 +1,6 @@
 -- What the code's records mean in document 01's terms.
 use mathlib.Core.{Path.◌≡◌, List.List, Option.none, Option.some}
-use Rattle.std.specs.Prelude.{ℕ, ◌+◌, ◌*◌, ◌%◌, ◌≤◌, Result, Ok, Err}
+use Rattle.std.specs.Prelude.{ℕ, ◌+◌, ◌*◌, ◌%◌, ◌≤◌, Result, Ok, Err, Option as Maybe, Some, None}
 use Rattle.submission.specs.declared.Term.{Term}
 use Rattle.submission.specs.declared.Claim.{Claim}
 use Rattle.submission.specs.declared.ClaimBytes.{ClaimBytes}
@@ -18,10 +18,10 @@ use Rattle.submission.specs.declared.Operand.TheVariants.{VerifyingResult, Compa
 use Rattle.submission.specs.declared.Row.{Row as RowRead}
 use Rattle.base.specs.declared.refusal.Refusal.{Refusal}
 use Rattle.base.specs.Code.{check_of}
-use Rattle.submission.specs.{Check.Way, Check.another_step, Check.at_start, Check.inverse_key, Check.guess_derived, Check.inverse_derived, Check.way_of, Check.Target, Check.the_guess, Check.its_inverse, Check.Claims, Check.verifier, Check.derived, Check.Range, Check.step_number, Check.term_number, Check.zero_only, Check.step_or_knowledge, Check.Operand, Check.verifying_result, Check.companion_result, Check.lowest_conclusion, Check.lowest_companion, Check.guess_register, Check.given_register, Check.Row, Record.start, Record.count, Record.kind_at, Record.x_at, Record.y_at, Record.guess, Record.verifying, Record.way_at, Record.companion, Record.InKnowledge, Computed.checks1to4, Computed.checks1to5}
+use Rattle.submission.specs.{Check.Way, Check.another_step, Check.at_start, Check.inverse_key, Check.guess_derived, Check.inverse_derived, Check.way_of, Check.Target, Check.the_guess, Check.its_inverse, Check.Claims, Check.verifier, Check.derived, Check.Range, Check.step_number, Check.term_number, Check.zero_only, Check.step_or_knowledge, Check.Operand, Check.verifying_result, Check.companion_result, Check.lowest_conclusion, Check.lowest_companion, Check.guess_register, Check.given_register, Check.row, Check.knowledge_step, Record.start, Record.count, Record.kind_at, Record.x_at, Record.y_at, Record.guess, Record.verifying, Record.way_at, Record.companion, Record.InKnowledge, Computed.checks1to4, Computed.checks1to5}
 use Rattle.term.specs.Term as words
 use Rattle.term.specs.Code.{relation_is}
-use Rattle.base.specs.{Words.Bytes, Computed.Check, Computed.passes}
+use Rattle.base.specs.{Words.Bytes, Words.cond, Words.eqb, Computed.Check, Computed.passes}
 
 -- r is where body i starts; a body has at most 255 records of at most 4 bytes
 pub record Starts (s : List ℕ) (i r : ℕ) : Type 0 where
@@ -83,18 +83,15 @@ operand_is LowestCompanion = lowest_companion
 operand_is GuessRegister = guess_register
 operand_is (GivenRegister t) = given_register (target_is t)
 
-abbrev pub row_is : RowRead → Row
-row_is r =
-    record {
-      letter = r.letter;
-      claims = claims_is r.claims;
-      step = range_is r.step;
-      companion = range_is r.companion;
-      companion_kept = r.kept;
-      relation = relation_is r.relation;
-      tested = operand_is r.tested;
-      against = operand_is r.against;
-    }
+-- r holds a way's row, but for its letter
+pub record IsRow (r : RowRead) (w : Way) : Type 0 where
+  pub claims : claims_is r.claims ≡ (row w).claims
+  pub step : range_is r.step ≡ (row w).step
+  pub companion : range_is r.companion ≡ (row w).companion
+  pub kept : r.kept ≡ (row w).companion_kept
+  pub relation : relation_is r.relation ≡ (row w).relation
+  pub tested : operand_is r.tested ≡ (row w).tested
+  pub against : operand_is r.against ≡ (row w).against
 
 -- b holds the claim's bytes
 pub record IsClaimBytes (s : List ℕ) (b : ClaimBytes) : Type 0 where
@@ -102,6 +99,10 @@ pub record IsClaimBytes (s : List ℕ) (b : ClaimBytes) : Type 0 where
   pub step : b.step ≡ verifying s
   pub letter : b.letter ≡ way_at s
   pub other : b.companion ≡ companion s
+
+-- the step that a number of the claim names; none where it stands for an entry of the knowledge
+abbrev pub step_named : ℕ → Maybe ℕ
+step_named n = cond (eqb n knowledge_step) None (Some n)
 
 -- c holds the claim
 pub record IsClaim (s : List ℕ) (c : Claim) : Type 0 where

@@ -3,23 +3,26 @@
 #![tactic(auto)]
 
 ghost use Rattle.std.specs.Prelude.{◌≡◌, ◌&&◌, not, cond, ◌+◌, ◌*◌, ◌%◌, ◌<◌, eqb, get_or};
-ghost use Rattle.base.specs.Words.{first, byte as byte_at};
-ghost use Rattle.term.specs.Term.{asymmetric, is_key_for};
+ghost use Rattle.base.specs.Words.{false, first, byte as byte_at};
+ghost use Rattle.term.specs.Term.{symmetric, asymmetric, is_key_for};
 ghost use Rattle.term.specs.Number.{shape_of};
 ghost use Rattle.term.specs.Computed.{is_atomic, inverse_kinds, takes};
-ghost use Rattle.term.specs.Code.{shape_read, rule_is, is_unary, builder_of, second_of};
-ghost use Rattle.submission.specs.Record.{letter, count as count_in, start, terms as term_count, entries as entry_count, steps as step_count, kind_at, x_at, y_at, entry_at, way_at};
-ghost use Rattle.submission.specs.Computed.{are_inverse, bad_contents, check_limits, in_range, guess_fits, claim_fits, shape_fits, same_record, bad_term, bad_knowledge, good_claim, checks1to4, checks1to5};
-ghost use Rattle.submission.specs.Check.{way_of, step_or_knowledge, row};
+ghost use Rattle.term.specs.Code.{shape_read, is_unary, builder_of, second_of};
+ghost use Rattle.submission.specs.Record.{letter, count as count_in, start, terms as term_count, entries as entry_count, steps as step_count, kind_at, entry_at};
+ghost use Rattle.submission.specs.Computed.{are_inverse, bad_contents, check_limits, in_range, shape_fits, same_record, bad_term, bad_knowledge, good_claim, checks1to4, checks1to5};
+ghost use Rattle.submission.specs.Check.{way_of, row, verifier, derived, step_number, zero_only, step_or_knowledge, verifying_result, guess_register, given_register};
 ghost use Rattle.base.specs.Computed.{any, fails_at, fails_if};
 ghost use Rattle.base.specs.Code.{check_of, Flagged, Chained};
-ghost use Rattle.submission.specs.Code.{Starts, IsTerm, way_is, ReadsWay, claims_is, range_is, row_is, IsClaimBytes, IsClaim, ClaimRead, chained_by};
+ghost use Rattle.submission.specs.Code.{Starts, IsTerm, way_is, ReadsWay, range_is, target_is, claims_is, operand_is, IsRow, IsClaimBytes, ClaimRead, step_named, chained_by};
 
 pub mod read;
 
 use base::{ByteChains, Fault, Refusal, byte, bytes_at, word};
-pub use read::{Submission, Table};
+pub use read::{Claimed, Submission, Table};
 use term::{Kind, Relation};
+
+// The letters of the contents.
+pub const LETTERS: [u8; 4] = *b"TKDV";
 
 // Where the first body starts.
 pub const CONTENTS_SIZE: usize = 16;
@@ -33,6 +36,7 @@ pub const STEP_WIDTH: usize = 4;
 
 pub const CLAIM_WIDTH: usize = 4;
 
+// A name for each count that is asked for: by an index a caller would not tell which it means.
 pub fn terms(s: &[u8]) -> u8
     ensures { result ≡ term_count s.now }
 {
@@ -51,18 +55,22 @@ pub fn steps(s: &[u8]) -> u8
     byte(s, 9)
 }
 
+// A name for each start: it is the former one, with the former body; one function of the body's index would match on it.
+#[tactic(auto, unfolding(crate::specs::Record::start_of))]
 pub fn knowledge_start(s: &[u8]) -> usize
     ensures { Starts s.now 1 result }
 {
     CONTENTS_SIZE + TERM_WIDTH * usize::from(byte(s, 1))
 }
 
+#[tactic(auto, unfolding(crate::specs::Record::start_of))]
 pub fn derivation_start(s: &[u8]) -> usize
     ensures { Starts s.now 2 result }
 {
     knowledge_start(s) + ENTRY_WIDTH * usize::from(byte(s, 5))
 }
 
+#[tactic(auto, unfolding(crate::specs::Record::start_of))]
 pub fn claim_start(s: &[u8]) -> usize
     ensures { Starts s.now 3 result }
 {
@@ -70,13 +78,14 @@ pub fn claim_start(s: &[u8]) -> usize
 }
 
 // Where the last body ends.
+#[tactic(auto, unfolding(crate::specs::Record::start_of))]
 fn end(s: &[u8]) -> usize
     ensures { Starts s.now 4 result }
 {
     claim_start(s) + CLAIM_WIDTH * usize::from(byte(s, 13))
 }
 
-// A term's record.
+// A term's record. The kind is a byte, as of a record that no check has passed; `kind` reads it.
 #[derive(Clone, Copy, PartialEq, Eq)]
 pub struct Term {
     pub kind: u8,
@@ -84,6 +93,7 @@ pub struct Term {
     pub y: u8,
 }
 
+// The methods from `is_atom` to `takes` each lift one of `Kind`'s to any byte, so that a record that no check has passed can be asked.
 impl Term {
     // The kind, where the record's first byte numbers one.
     pub fn kind(self) -> Option<Kind>
@@ -105,6 +115,13 @@ impl Term {
         self.kind().is_some_and(|kind| kind.is_key())
     }
 
+    // Whether it may be the key of kind 5: a plain atom, or a hash.
+    pub fn is_symmetric_key(self) -> bool
+        ensures { result ≡ is_key_for symmetric (shape_of self.kind) }
+    {
+        self.kind().is_some_and(|kind| kind.is_symmetric_key())
+    }
+
     // Whether it has one operand, so that its y is 0 and no part.
     pub fn is_unary(self) -> bool
         ensures { result ≡ is_unary (shape_of self.kind) }
@@ -114,7 +131,7 @@ impl Term {
 
     // The rule that builds it, where there is one.
     pub fn rule(self) -> Option<u8>
-        ensures { rule_is result ≡ builder_of (shape_of self.kind) }
+        ensures { result ≡ builder_of (shape_of self.kind) }
     {
         self.kind().and_then(|kind| kind.rule())
     }
@@ -127,7 +144,7 @@ impl Term {
         self.kind().is_some_and(|kind| kind.takes(taken))
     }
 
-    // The second part; one operand stands twice. Of an atom it is y.
+    // The second part; one operand stands twice, as `rules::second_operand` has it by a rule. An atom has no rule to ask by, and y is its second.
     pub fn second_part(self) -> u8
         ensures { result ≡ cond (is_unary (shape_of self.kind)) self.x self.y }
     {
@@ -142,20 +159,18 @@ impl Term {
     }
 
     // Whether the two are keys, one public and one private.
-    fn has_inverse_kind(self, other: Term) -> bool
+    pub fn has_inverse_kind(self, other: Term) -> bool
         ensures { result ≡ inverse_kinds self.kind other.kind }
     {
-        let Some(kind) = self.kind() else {
-            return false;
-        };
-        kind.is_inverse_of(other.kind())
+        let kinds = self.kind().zip(other.kind());
+        kinds.is_some_and(|(kind, other)| kind.is_inverse_of(other))
     }
 
     // Whether the two are keys of one name, one public and one private.
     pub fn is_inverse_of(self, other: Term) -> bool
         ensures { result ≡ (inverse_kinds self.kind other.kind && (eqb self.x other.x && eqb self.y other.y)) }
     {
-        self.x == other.x && self.y == other.y && self.has_inverse_kind(other)
+        self.name() == other.name() && self.has_inverse_kind(other)
     }
 }
 
@@ -167,7 +182,7 @@ pub fn term_at(s: &[u8], i: u8) -> Term
     Term { kind, x, y }
 }
 
-// The claim's four bytes.
+// The claim's four bytes, as of a record that no check has passed: the letter may be no way's.
 #[derive(Clone, Copy)]
 pub struct ClaimBytes {
     pub guess: u8,
@@ -208,28 +223,21 @@ pub fn are_inverse(s: &[u8], i: u8, j: u8) -> bool
 fn is_letter_wrong(s: &[u8]) -> bool
     ensures { result ≡ any (λ i. not (eqb (byte_at s.now (4 * i)) (letter i))) 4 }
 {
-    for (i, letter) in b"TKDV".iter().enumerate() {
-        if byte(s, 4 * i) != *letter {
-            return true;
-        }
-    }
-    false
+    LETTERS
+        .iter()
+        .enumerate()
+        .any(|(i, letter)| byte(s, 4 * i) != *letter)
 }
 
 // Whether a start of the contents is wrong.
+#[tactic(auto, using(base::proofs::Says::any_four), unfolding(crate::specs::Record::start_of))]
 fn is_start_wrong(s: &[u8]) -> bool
     ensures { result ≡ any (λ i. not (eqb (byte_at s.now (4 * i + 2) * 256 + byte_at s.now (4 * i + 3)) (start s.now i))) 4 }
 {
-    if word(s, 2) != CONTENTS_SIZE {
-        return true;
-    }
-    if word(s, 6) != knowledge_start(s) {
-        return true;
-    }
-    if word(s, 10) != derivation_start(s) {
-        return true;
-    }
-    word(s, 14) != claim_start(s)
+    word(s, 2) != CONTENTS_SIZE
+        || word(s, 6) != knowledge_start(s)
+        || word(s, 10) != derivation_start(s)
+        || word(s, 14) != claim_start(s)
 }
 
 #[tactic(auto, unfolding(crate::specs::Computed::bad_contents))]
@@ -242,28 +250,25 @@ fn are_contents_wrong(s: &[u8]) -> bool
 pub fn check_contents(s: &[u8]) -> Result<(), Refusal>
     ensures { check_of result ≡ fails_if (bad_contents s.now) 1 0 }
 {
-    if are_contents_wrong(s) {
-        return Err(Fault::Contents.at(0));
-    }
-    Ok(())
+    Fault::Contents.at(0).when(are_contents_wrong(s))
 }
 
 // ---- Check 2, count.
+
+// The least and the most that each count may be.
+const LIMITS: [(usize, usize); 4] = [(1, 250), (0, 64), (0, 128), (1, 1)];
 
 // The limits of any four counts.
 pub fn check_limits(counts: [usize; 4]) -> Result<(), Refusal>
     ensures { check_of result ≡ check_limits (λ i. get_or counts i 0) }
 {
-    let least: [usize; 4] = [1, 0, 0, 1];
-    let most: [usize; 4] = [250, 64, 128, 1];
-    for i in 0..4usize {
-        if counts[i] < least[i] || most[i] < counts[i] {
-            return Err(Fault::Count.at(i as u16));
-        }
+    for (i, (count, (least, most))) in (0..4u16).zip(counts.iter().zip(&LIMITS)) {
+        Fault::Count.at(i).when(*count < *least || *most < *count)?;
     }
     Ok(())
 }
 
+#[tactic(auto, using(crate::proofs::ContentsTests::counts_read), unfolding(base::specs::Words::first, base::specs::Words::first_from))]
 pub fn check_counts(s: &[u8]) -> Result<(), Refusal>
     ensures { check_of result ≡ check_limits (count_in s.now) }
 {
@@ -297,20 +302,14 @@ fn shape_fits(s: &[u8], i: u8) -> bool
     t.takes(term_at(s, t.y))
 }
 
-// Whether an earlier record equals record i. Only those of its chain are compared, the latest first.
+// Whether an earlier record equals record i. Only those of its chain are compared. `Chained` is asked and is no field of the chains: it grows
+// with each number, so a field would hold between no two writes.
 fn is_repeated(s: &[u8], chains: &ByteChains, i: u8) -> bool
     requires { Chained (chained_by s.now) (i + 1) chains.now.before }
     ensures { result ≡ any (same_record s.now i) i }
 {
     let t = term_at(s, i);
-    let mut next = chains.before(i);
-    while let Some(j) = next {
-        if term_at(s, j) == t {
-            return true;
-        }
-        next = chains.before(j);
-    }
-    false
+    chains.find_before(i, |j| term_at(s, j) == t).is_some()
 }
 
 #[tactic(auto, unfolding(crate::specs::Computed::bad_term))]
@@ -326,10 +325,10 @@ fn is_term_bad(s: &[u8], chains: &ByteChains, i: u8) -> bool
 fn chain_of(t: Term) -> u8
     ensures { result ≡ (21 * t.x + t.y) % 256 }
 {
-    ((21 * u16::from(t.x) + u16::from(t.y)) % 256) as u8
+    t.x.wrapping_mul(21).wrapping_add(t.y)
 }
 
-// Each record is chained before it is looked at.
+// Each record is chained before it is looked at: the loop changes the chains, which `find` would hide in a closure.
 pub fn check_terms(s: &[u8]) -> Result<(), Refusal>
     ensures { check_of result ≡ fails_at 3 (first (bad_term s.now) (term_count s.now)) }
 {
@@ -347,6 +346,7 @@ pub fn check_terms(s: &[u8]) -> Result<(), Refusal>
 // ---- Check 4, knowledge.
 
 // Whether entry i is no term, or equals an earlier one: `seen` flags the terms of these.
+#[tactic(auto, using(crate::proofs::TermTests::entry_seen, crate::proofs::TermTests::entry_high))]
 fn is_entry_bad(s: &[u8], seen: &[bool; 256], i: u8) -> bool
     requires { Flagged (entry_at s.now) i seen.now }
     ensures { result ≡ bad_knowledge s.now i }
@@ -355,6 +355,7 @@ fn is_entry_bad(s: &[u8], seen: &[bool; 256], i: u8) -> bool
     terms(s) <= t || seen[usize::from(t)]
 }
 
+// The loop flags each entry's term, which `find` would hide in a closure.
 pub fn check_knowledge(s: &[u8]) -> Result<(), Refusal>
     ensures { check_of result ≡ fails_at 4 (first (bad_knowledge s.now) (entry_count s.now)) }
 {
@@ -371,15 +372,15 @@ pub fn check_knowledge(s: &[u8]) -> Result<(), Refusal>
 
 // ---- The ways of a claim.
 
-// Way a: another step concludes the same term; way b: it is known at the start; way c: its inverse key is known; way k: the guess is
-// derived; way j: its inverse is.
+// The ways by their letters. Way a: another step concludes the same term; way b: it is known at the start; way c: its inverse key is known; way k:
+// the guess is derived; way j: its inverse is.
 #[derive(Clone, Copy, PartialEq, Eq)]
 pub enum Way {
-    AnotherStep,
-    AtStart,
-    InverseKey,
-    GuessDerived,
-    InverseDerived,
+    AnotherStep = b'a' as isize,
+    AtStart = b'b' as isize,
+    InverseKey = b'c' as isize,
+    GuessDerived = b'k' as isize,
+    InverseDerived = b'j' as isize,
 }
 
 // A letter that is no way's.
@@ -391,6 +392,7 @@ impl TryFrom<u8> for Way {
 
     ghost try_from_gives = { ReadsWay };
 
+    // No derive reads a letter back, so each is named once more.
     #[tactic(auto, using(crate::proofs::ClaimTests::no_way), unfolding(crate::specs::Check::way_of))]
     fn try_from(letter: u8) -> Result<Self, UnknownWay> {
         match letter {
@@ -403,6 +405,9 @@ impl TryFrom<u8> for Way {
         }
     }
 }
+
+// ---- The words of the table of ways. They are words and no closures: a row is read by check 5, the conditions, the page and reading back, each of
+// which does another thing by it, and the definitions have the same words.
 
 // What is derived: the guess, or its inverse.
 #[derive(Clone, Copy, PartialEq, Eq)]
@@ -427,7 +432,7 @@ pub enum Range {
     StepOrKnowledge,
 }
 
-// The step number that stands for an entry of the knowledge.
+// The number that a claim's record has, by document 02, for an entry of the knowledge in a step's place.
 pub const KNOWLEDGE_STEP: u8 = 255;
 
 // A register that the test names: of the verifying step or of the companion step, the lowest that holds the conclusion or the companion, the
@@ -442,11 +447,9 @@ pub enum Operand {
     GivenRegister(Target),
 }
 
-// A way's row of the table: its letter, what is claimed, the ranges of the step and of the companion, whether the companion must undo nothing, and the
-// test.
+// A way's row of the table: what is claimed, the ranges of the step and of the companion, whether the companion must undo nothing, and the test.
 #[derive(Clone, Copy)]
 pub struct Row {
-    pub letter: u8,
     pub claims: Claims,
     pub step: Range,
     pub companion: Range,
@@ -456,69 +459,78 @@ pub struct Row {
     pub against: Operand,
 }
 
+impl Row {
+    // A way that claims a verifier: the test names the verifying step's register first.
+    fn verifier(companion: Range, kept: bool, relation: Relation, against: Operand) -> Self
+        ensures claims { claims_is result.claims ≡ verifier }
+        ensures step { range_is result.step ≡ step_number }
+        ensures companion { result.companion ≡ companion }
+        ensures kept { result.kept ≡ kept }
+        ensures relation { result.relation ≡ relation }
+        ensures tested { operand_is result.tested ≡ verifying_result }
+        ensures against { result.against ≡ against }
+    {
+        Row {
+            claims: Claims::Verifier,
+            step: Range::Step,
+            companion,
+            kept,
+            relation,
+            tested: Operand::VerifyingResult,
+            against,
+        }
+    }
+
+    // A way that claims the guess or its inverse derived: the test names the guess's register first.
+    fn derived(target: Target, relation: Relation) -> Self
+        ensures claims { claims_is result.claims ≡ derived (target_is target) }
+        ensures step { range_is result.step ≡ step_or_knowledge }
+        ensures companion { range_is result.companion ≡ zero_only }
+        ensures kept { result.kept ≡ false }
+        ensures relation { result.relation ≡ relation }
+        ensures tested { operand_is result.tested ≡ guess_register }
+        ensures against { operand_is result.against ≡ given_register (target_is target) }
+    {
+        Row {
+            claims: Claims::Derived(target),
+            step: Range::StepOrKnowledge,
+            companion: Range::Zero,
+            kept: false,
+            relation,
+            tested: Operand::GuessRegister,
+            against: Operand::GivenRegister(target),
+        }
+    }
+}
+
 impl Way {
+    // The way's letter. A method has the word: `u8::from(way)` doesn't tell a letter from a number.
+    pub fn letter(self) -> u8
+        ensures { result ≡ (row (way_is self)).letter }
+    {
+        self as u8
+    }
+
     // The way's row.
     pub fn row(self) -> Row
-        ensures { row_is result ≡ row (way_is self) }
+        ensures { IsRow result (way_is self) }
     {
+        use Operand::{CompanionResult, LowestCompanion, LowestConclusion};
+        use Relation::{Equal, Inverse};
         match self {
-            Way::AnotherStep => Row {
-                letter: b'a',
-                claims: Claims::Verifier,
-                step: Range::Step,
-                companion: Range::Step,
-                kept: true,
-                relation: Relation::Equal,
-                tested: Operand::VerifyingResult,
-                against: Operand::CompanionResult,
-            },
-            Way::AtStart => Row {
-                letter: b'b',
-                claims: Claims::Verifier,
-                step: Range::Step,
-                companion: Range::Zero,
-                kept: false,
-                relation: Relation::Equal,
-                tested: Operand::VerifyingResult,
-                against: Operand::LowestConclusion,
-            },
-            Way::InverseKey => Row {
-                letter: b'c',
-                claims: Claims::Verifier,
-                step: Range::Step,
-                companion: Range::Term,
-                kept: false,
-                relation: Relation::Inverse,
-                tested: Operand::VerifyingResult,
-                against: Operand::LowestCompanion,
-            },
-            Way::GuessDerived => Row {
-                letter: b'k',
-                claims: Claims::Derived(Target::Guess),
-                step: Range::StepOrKnowledge,
-                companion: Range::Zero,
-                kept: false,
-                relation: Relation::Equal,
-                tested: Operand::GuessRegister,
-                against: Operand::GivenRegister(Target::Guess),
-            },
-            Way::InverseDerived => Row {
-                letter: b'j',
-                claims: Claims::Derived(Target::Inverse),
-                step: Range::StepOrKnowledge,
-                companion: Range::Zero,
-                kept: false,
-                relation: Relation::Inverse,
-                tested: Operand::GuessRegister,
-                against: Operand::GivenRegister(Target::Inverse),
-            },
+            Way::AnotherStep => Row::verifier(Range::Step, true, Equal, CompanionResult),
+            Way::AtStart => Row::verifier(Range::Zero, false, Equal, LowestConclusion),
+            Way::InverseKey => Row::verifier(Range::Term, false, Inverse, LowestCompanion),
+            Way::GuessDerived => Row::derived(Target::Guess, Equal),
+            Way::InverseDerived => Row::derived(Target::Inverse, Inverse),
         }
     }
 }
 
 // ---- Check 5, claim.
 
-// The claim, its way decoded.
+// The claim, its way decoded. The step stays a number: in ways a to c it is always a step's, and an enum would be opened at each use with an arm
+// that never holds.
 #[derive(Clone, Copy)]
 pub struct Claim {
     pub guess: u8,
@@ -527,86 +539,40 @@ pub struct Claim {
     pub companion: u8,
 }
 
-// Whether n numbers a step, or is the number for an entry of the knowledge.
-fn is_step_or_knowledge(s: &[u8], n: u8) -> bool
-    ensures { result ≡ in_range s.now step_or_knowledge n }
-{
-    n < steps(s) || n == KNOWLEDGE_STEP
+impl Claim {
+    // The step that the claim names; none where its number stands for an entry of the knowledge.
+    pub fn named_step(self) -> Option<u8>
+        ensures { result ≡ step_named self.step }
+    {
+        (self.step != KNOWLEDGE_STEP).then_some(self.step)
+    }
 }
 
-// Whether n is in the range.
+// Whether n is in the range. A match on the row's word: reading back does another thing by the same word.
 fn is_in_range(s: &[u8], range: Range, n: u8) -> bool
     ensures { result ≡ in_range s.now (range_is range) n }
 {
-    let step_count = steps(s);
-    let term_count = terms(s);
     match range {
-        Range::Step => n < step_count,
-        Range::Term => n < term_count,
+        Range::Step => n < steps(s),
+        Range::Term => n < terms(s),
         Range::Zero => n == 0,
-        Range::StepOrKnowledge => is_step_or_knowledge(s, n),
+        Range::StepOrKnowledge => n < steps(s) || n == KNOWLEDGE_STEP,
     }
-}
-
-// Whether the guess fits what is claimed: where it is the inverse, the guess is a key.
-fn guess_fits(s: &[u8], c: Claim, claims: Claims) -> bool
-    requires { IsClaim s.now c }
-    ensures { result ≡ guess_fits s.now (claims_is claims) }
-{
-    let Claims::Derived(target) = claims else {
-        return true;
-    };
-    let guess = term_at(s, c.guess);
-    match target {
-        Target::Guess => true,
-        Target::Inverse => guess.is_key(),
-    }
-}
-
-// Whether the guess fits the claim's way, and the step and the companion are in range for it.
-fn claim_fits(s: &[u8], c: Claim) -> bool
-    requires { IsClaim s.now c }
-    ensures { result ≡ claim_fits s.now (way_of (way_at s.now)) }
-{
-    let row = c.way.row();
-    let claims = row.claims;
-    let step = row.step;
-    let companion = row.companion;
-    guess_fits(s, c, claims)
-        && is_in_range(s, step, c.step)
-        && is_in_range(s, companion, c.companion)
-}
-
-#[tactic(auto, unfolding(crate::specs::Computed::good_claim))]
-fn is_claim_good(s: &[u8], c: Claim) -> bool
-    requires { IsClaim s.now c }
-    ensures { result ≡ good_claim s.now }
-{
-    c.guess < terms(s) && term_at(s, c.guess).is_atom() && claim_fits(s, c)
 }
 
 pub fn check_claim(s: &[u8]) -> Result<Claim, Refusal>
     ensures { ClaimRead s.now (fails_if (not (good_claim s.now)) 5 0) result }
 {
-    let bytes = claim_bytes(s);
-    let Ok(way) = Way::try_from(bytes.letter) else {
-        return Err(Fault::Claim.at(0));
-    };
-    let claim = Claim {
-        guess: bytes.guess,
-        step: bytes.step,
-        way,
-        companion: bytes.companion,
-    };
-    if is_claim_good(s, claim) {
-        return Ok(claim);
+    match Claimed::of(s) {
+        Ok(claimed) if claimed.is_claim_good() => Ok(claimed.claim),
+        _ => Err(Fault::Claim.at(0)),
     }
-    Err(Fault::Claim.at(0))
 }
 
-// ---- The checks in order; a refusal goes straight out.
+// ---- The checks in order. Document 01 names the form: each stage's answer is taken apart by `let .. else`, and a refusal goes straight out.
 
 // Checks 1 to 4.
+#[tactic(auto, unfolding(crate::specs::Computed::checks1to4))]
 pub fn check_body(s: &[u8]) -> Result<(), Refusal>
     ensures { check_of result ≡ checks1to4 s.now }
 {
@@ -626,11 +592,11 @@ pub fn check_body(s: &[u8]) -> Result<(), Refusal>
 }
 
 // Checks 1 to 5.
+#[tactic(auto, unfolding(crate::specs::Computed::checks1to5))]
 pub fn check_reading(s: &[u8]) -> Result<Claim, Refusal>
     ensures { ClaimRead s.now (checks1to5 s.now) result }
 {
-    let body = check_body(s);
-    let Err(refusal) = body else {
+    let Err(refusal) = check_body(s) else {
         return check_claim(s);
     };
     Err(refusal)

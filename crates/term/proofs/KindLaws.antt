@@ -10,14 +10,15 @@ use lib.ListN.{length}
 use borrow.Author.Tests.{ne_eqb}
 use Rattle.base.specs.Words.{grow, listed}
 use Rattle.base.proofs.Says.{Says, says_eqb}
-use Rattle.term.specs.{Term.plain, Term.public, Term.private, Term.Cipher, Term.symmetric, Term.asymmetric, Term.Form, Term.pair, Term.hash, Term.encryption, Term.Second, Term.absent, Term.anything, Term.key_for, Term.make, Term.single, Computed.takes, Term.Shape, Term.atomic, Term.compound, Computed.shape?, Computed.is_atomic, Term.is_key_for, Number.kinds, Number.shape_of, Computed.kind_of, Computed.inverse_kinds}
-use Rattle.std.specs.Prelude.{Option as Maybe, Some, None}
+use Rattle.term.specs.{Term.plain, Term.public, Term.private, Term.Cipher, Term.symmetric, Term.asymmetric, Term.Form, Term.pair, Term.hash, Term.encryption, Term.Second, Term.absent, Term.anything, Term.key_for, Term.make, Computed.takes, Term.Shape, Term.atomic, Term.compound, Computed.shape?, Computed.is_atomic, Term.is_key_for, Number.kinds, Number.shape_of, Computed.kind_of, Computed.inverse_kinds}
+use Rattle.std.specs.Prelude.{Option as Maybe, Some, None, MatchOption}
+use Rattle.std.specs.Option.{option_eq, option_zip}
 use Rattle.term.specs.declared.kind.Kind.{Kind}
 use Rattle.term.specs.declared.kind.Kind.TheVariants.{Plain, Public, Private, Pair, Enc, Enca, Hash}
-use Rattle.term.specs.Code.{kind_is, shape_read, are_inverse_kinds, is_unary, builder_of, second_of, rule_of}
-use Rattle.term.specs.Number.{rules, head_of, has_one}
+use Rattle.term.specs.Code.{kind_is, shape_read, are_inverse_kinds, builder_of, second_of, rule_of}
+use Rattle.term.specs.Number.{head_of}
 use Rattle.term.proofs.Numbered.{Arms, choice, all_below, choice_is, entry_past, entry_place}
-use Rattle.term.proofs.Rule.{head_rule, head_past, rule_below}
+use Rattle.term.proofs.Rule.{head_rule}
 
 -- every shape is in the table
 pub kind_shape : (z : Shape) → shape_of (kind_of z) ≡ some z
@@ -37,17 +38,17 @@ shape_kind zero z e = absurd (let o : ◌≡◌ {A = ℕ} 0 1 = cc in omega arit
 shape_kind (suc n) z e = ap suc (entry_place shape? kinds refl n z e)
 
 -- a form's rule builds its kind, and no other
-pub says_builder : (k : ℕ) (f : Form) → Says (eqb (builder_of (shape_of k)) (rule_of (make f))) (k ≡ kind_of (compound f))
+pub says_builder : (k : ℕ) (f : Form) → Says (option_eq eqb (builder_of (shape_of k)) (Some (rule_of (make f)))) (k ≡ kind_of (compound f))
 says_builder k f = (
-  λ e. go (shape_of k) refl ((says_eqb _ _).0 e),
-  λ e. (says_eqb _ _).1 (ap builder_of (ap shape_of e ∙ kind_shape (compound f))),
+  λ e. go (shape_of k) refl e,
+  λ e. rw (e, kind_shape (compound f)) ((says_eqb _ _).1 refl),
 )
   where
-    go : (o : Option Shape) → shape_of k ≡ o → builder_of o ≡ rule_of (make f) → k ≡ kind_of (compound f)
-    go none h e = absurd (omega (arith, rule_below (make f)))
-    go (some (atomic κ)) h e = absurd (omega (arith, rule_below (make f)))
+    go : (o : Option Shape) → shape_of k ≡ o → option_eq eqb (builder_of o) (Some (rule_of (make f))) ≡ true → k ≡ kind_of (compound f)
+    go none h e = absurd (true≢false (sym e))
+    go (some (atomic κ)) h e = absurd (true≢false (sym e))
     go (some (compound g)) h e =
-        let q : make g ≡ make f = sym (head_rule (make g)) ∙ ap head_of e ∙ head_rule (make f) in
+        let q : make g ≡ make f = sym (head_rule (make g)) ∙ ap head_of ((says_eqb _ _).0 e) ∙ head_rule (make f) in
         let w : g ≡ f = cc in
         shape_kind k (compound g) h ∙ ap (λ x. kind_of (compound x)) w
 
@@ -111,22 +112,12 @@ unfolding shape_of grow
 atom n e = e ∙ rw (← (key asymmetric n refl)) (kind_column is_atomic ((1, true) ∷ (2, true) ∷ (3, true) ∷ []) refl refl n)
 
 -- the rule that builds the kind n
-abbrev builders : Arms ℕ
-builders = (4, 0) ∷ (5, 3) ∷ (6, 5) ∷ (7, 7) ∷ []
+abbrev builders : Arms (Maybe ℕ)
+builders = (4, Some 0) ∷ (5, Some 3) ∷ (6, Some 5) ∷ (7, Some 7) ∷ []
 
-pub builder : (n : ℕ) {r : ℕ} → r ≡ choice builders rules n → r ≡ builder_of (shape_of n)
+pub builder : (n : ℕ) {r : Maybe ℕ} → r ≡ choice builders None n → r ≡ builder_of (shape_of n)
 unfolding shape_of grow
 builder n e = e ∙ kind_column builder_of builders refl refl n
-
--- a kind has one operand where the rule that builds it has
-unary_rule : (o : Option Shape) → has_one (builder_of o) ≡ is_unary o
-unfolding has_one
-unary_rule none = ap single (head_past rules (omega arith))
-unary_rule (some (atomic κ)) = ap single (head_past rules (omega arith))
-unary_rule (some (compound f)) = ap single (head_rule (make f))
-
-pub unary_kind : (n : ℕ) {b : ℕ} {r : Bool} → b ≡ builder_of (shape_of n) → r ≡ has_one b → r ≡ is_unary (shape_of n)
-unary_kind n e f = f ∙ ap has_one e ∙ unary_rule (shape_of n)
 
 -- the second operand o of the kind n
 abbrev seconds : Arms Second
@@ -161,8 +152,15 @@ kind_not {k} {m} a e d f = go m refl
     go None g = let z : none ≡ some (kind_is a) = sym (ap shape_read g) ∙ q in absurd (let o : ◌≡◌ {A = ℕ} 0 1 = cc in omega arith)
     go (Some b) g = let z : some (kind_is b) ≡ some (kind_is a) = sym (ap shape_read g) ∙ q in let y : kind_is b ≡ kind_is a = cc in d (g ∙ ap Some (kind_once b a y))
 
-pub inverse_read : (k j : ℕ) {a : Kind} {m : Maybe Kind} (n : Maybe Kind) → shape_read m ≡ shape_of k → m ≡ Some a → shape_read n ≡ shape_of j → are_inverse_kinds a n ≡ inverse_kinds k j
-inverse_read k j {a} {m} n e f g = rw (kind_number e f) (go a n g)
+-- whether two kinds are read, each other's inverse
+abbrev are_inverse_read : Maybe Kind → Maybe Kind → Bool
+are_inverse_read None n = false
+are_inverse_read (Some a) None = false
+are_inverse_read (Some a) (Some b) = are_inverse_kinds a b
+
+inverse_read : (k j : ℕ) (m n : Maybe Kind) → shape_read m ≡ shape_of k → shape_read n ≡ shape_of j → are_inverse_read m n ≡ inverse_kinds k j
+inverse_read k j None n e g = sym (no_inverse k j (ap (is_key_for asymmetric) (sym e)))
+inverse_read k j (Some a) n e g = rw (kind_number e refl) (go a n g)
   where
     none_at : (z : Shape) → none ≡ shape_of j → eqb j (kind_of z) ≡ false
     none_at z h = ne_eqb _ _ (λ x. let y : none ≡ some z = h ∙ ap shape_of x ∙ kind_shape z in absurd (let o : ◌≡◌ {A = ℕ} 0 1 = cc in omega arith))
@@ -170,12 +168,17 @@ inverse_read k j {a} {m} n e f g = rw (kind_number e f) (go a n g)
     at : (b : Kind) → shape_read (Some b) ≡ shape_of j → j ≡ kind_of (kind_is b)
     at b h = kind_number h refl
 
-    go : (a : Kind) (n : Maybe Kind) → shape_read n ≡ shape_of j → are_inverse_kinds a n ≡ inverse_kinds (kind_of (kind_is a)) j
-    go Plain n h = refl
-    go Pair n h = refl
-    go Enc n h = refl
-    go Enca n h = refl
-    go Hash n h = refl
+    go : (a : Kind) (n : Maybe Kind) → shape_read n ≡ shape_of j → are_inverse_read (Some a) n ≡ inverse_kinds (kind_of (kind_is a)) j
+    go Plain None h = refl
+    go Plain (Some b) h = refl
+    go Pair None h = refl
+    go Pair (Some b) h = refl
+    go Enc None h = refl
+    go Enc (Some b) h = refl
+    go Enca None h = refl
+    go Enca (Some b) h = refl
+    go Hash None h = refl
+    go Hash (Some b) h = refl
     go Public None h = rw (none_at (atomic private) h)
     go Public (Some Plain) h = rw (at Plain h)
     go Public (Some Public) h = rw (at Public h)
@@ -193,6 +196,9 @@ inverse_read k j {a} {m} n e f g = rw (kind_number e f) (go a n g)
     go Private (Some Enca) h = rw (at Enca h)
     go Private (Some Hash) h = rw (at Hash h)
 
--- a number that is read as no kind has no inverse
-pub no_kind_inverse : (k j : ℕ) {m : Maybe Kind} → shape_read m ≡ shape_of k → m ≡ None → false ≡ inverse_kinds k j
-no_kind_inverse k j e f = sym (no_inverse k j (ap (is_key_for asymmetric) (sym e ∙ ap shape_read f)))
+-- the test of two kinds that are read, r where both are
+pub inverse_zipped : (k j : ℕ) (m n : Maybe Kind) {r : Bool} {Gave : Kind × Kind → Type 0} → shape_read m ≡ shape_of k → shape_read n ≡ shape_of j →
+    MatchOption (option_zip m n) (r ≡ false) Gave → ((x : Kind × Kind) → Gave x → r ≡ are_inverse_kinds x.0 x.1) → r ≡ inverse_kinds k j
+inverse_zipped k j None n e g h f = h ∙ inverse_read k j None n e g
+inverse_zipped k j (Some a) None e g h f = h ∙ inverse_read k j (Some a) None e g
+inverse_zipped k j (Some a) (Some b) e g h f = f (a, b) h ∙ inverse_read k j (Some a) (Some b) e g

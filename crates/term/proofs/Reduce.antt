@@ -88,18 +88,18 @@ op_cases (part s) a b = parted_cases s a b
 op_cases (decrypt c) a b = cancelled_cases c (make (encryption c)) (decrypt c) a b
 
 -- and reduces where it can
-cancelled_reduced : (c : Cipher) (inner outer : Head) (x k b : Term) → Match c k b → cancelled c inner outer (node inner x k) b ≡ x
+pub cancelled_reduced : (c : Cipher) (inner outer : Head) (x k b : Term) → Match c k b → cancelled c inner outer (node inner x k) b ≡ x
 unfolding cancelled
 cancelled_reduced c inner outer x k b m = if_pos (Dec.and (head? inner inner) (match? c k b)) (refl, m) x _
 
 cancelled_reduces : (c : Cipher) (inner outer : Head) (a b r : Term) → Cancels c inner a b r → cancelled c inner outer a b ≡ r
 cancelled_reduces c inner outer a b r u = ap (λ z. cancelled c inner outer z b) u.1 ∙ cancelled_reduced c inner outer r u.0 b u.2
 
-parted_reduced : (s : Side) (x y b : Term) → parted s (node (make pair) x y) b ≡ pick s x y
+pub parted_reduced : (s : Side) (x y b : Term) → parted s (node (make pair) x y) b ≡ pick s x y
 unfolding parted
 parted_reduced s x y b = refl
 
-paired_reduced : (x y z : Term) → paired (node (part left) x y) (node (part right) x z) ≡ x
+pub paired_reduced : (x y z : Term) → paired (node (part left) x y) (node (part right) x z) ≡ x
 unfolding paired
 paired_reduced x y z =
     if_pos (Dec.and (head? (part left) (part left)) (Dec.and (head? (part right) (part right)) (term? x x))) (refl, (refl, refl)) x _

@@ -1,25 +1,25 @@
 -- The rules' heads, one for one, and each column as the code computes it.
 use mathlib.Core.Path.{◌≡◌, refl, sym, ap, ◌∙◌}
 use mathlib.Core.Logic.{⊎_elim}
-use mathlib.Core.Bool.{Bool, true, false, cond, ◌&&◌, and-false, false≢true}
+use mathlib.Core.Bool.{Bool, true, false, cond, ◌&&◌, ◌||◌, and-false, false≢true}
 use mathlib.Core.List.{[], ◌∷◌, map}
 use mathlib.Core.Option.{Option, none, some}
 use Prim.Native.Nat.{ℕ, ◌<◌, ◌≤◌}
 use native.Mathlib.Omega.{arith}
 use lib.Dec.{eqb, leb}
 use lib.ListN.{length, get_or-eq_default}
-use borrow.Author.Tests.{eq-eqb, ne_eqb, lt-ltb, le-ltb, leb-true}
+use borrow.Author.Tests.{eq-eqb, ne_eqb, lt-ltb, le-ltb, lt-leb, leb-true}
 use Rattle.base.proofs.Order.{lt_or_ge}
 use Rattle.base.proofs.Says.{Says}
-use Rattle.term.specs.{Term.symmetric, Term.asymmetric, Term.left, Term.right, Term.pair, Term.hash, Term.encryption, Term.Head, Term.make, Term.part, Term.decrypt, Computed.head?, Term.single}
-use Rattle.base.specs.Words.{ite, grow, listed}
+use Rattle.term.specs.{Term.symmetric, Term.asymmetric, Term.left, Term.right, Term.pair, Term.hash, Term.encryption, Term.Head, Term.make, Term.part, Term.decrypt, Computed.head?}
+use Rattle.base.specs.Words.{ite, grow}
 use Rattle.term.specs.Number.{table, rules, word_of, head_of, has_one}
 use Rattle.term.specs.Code.{heads}
 use Rattle.term.specs.Code.{rule_of}
 use Rattle.term.specs.Computed.{is_head, takes_apart, rule_takes_apart, is_rule}
 use Rattle.term.specs.Step.{taken_by}
 use Rattle.term.proofs.Reduce.{says_test}
-use Rattle.term.proofs.Numbered.{same_below, is, Arms, choice, all_below, choice_is}
+use Rattle.term.proofs.Numbered.{same_below, is, Arms, choice, choice_is}
 
 -- every head is in the table
 pub head_rule : (h : Head) → head_of (rule_of h) ≡ h
@@ -63,18 +63,12 @@ word_length n =
     ⊎_elim (λ l. leb-true _ _ (same_below (λ n. leb (length (word_of n)) 4) (λ n. true) rules refl n l))
     (λ l. rw (no_word n l) (omega arith)) (lt_or_ge n rules)
 
--- ---- the columns as the code has them: r is what the code answers
-rule_column : {A : Type 0} (c : Head → A) (l : Arms A) → listed (choice l (c (decrypt asymmetric))) rules ≡ listed (λ n. c (head_of n)) rules → all_below l rules ≡ true →
-    (n : ℕ) → choice l (c (decrypt asymmetric)) n ≡ c (head_of n)
-rule_column c l e f n = choice_is l (c (decrypt asymmetric)) (λ n. c (head_of n)) rules e f (λ n b. ap c (head_past n b)) n
-
--- the rules with one operand
-abbrev singles : Arms Bool
-singles = (1, true) ∷ (2, true) ∷ (7, true) ∷ []
-
-pub one_operand : (n : ℕ) {r : Bool} → r ≡ choice singles false n → r ≡ has_one n
+-- ---- the columns as the code has them: tests of a number, and of the range of two neighbours
+pub one_operand : (n : ℕ) → has_one n ≡ (eqb n 7 || (leb 1 n && leb n 2))
 unfolding has_one head_of grow
-one_operand n e = e ∙ rule_column single singles refl refl n
+one_operand n =
+    ⊎_elim (same_below has_one (λ n. eqb n 7 || (leb 1 n && leb n 2)) rules refl n)
+    (λ l. rw (head_past n l, ne_eqb n 7 (λ e. omega arith), lt-leb n 2 (omega arith), and-false (leb 1 n))) (lt_or_ge n rules)
 
 -- the rule that builds what the rule t takes apart
 abbrev takers : Arms (Option ℕ)
@@ -104,13 +98,25 @@ rule_of_lem b (some h) =
     below (yes e) l = eq-eqb b (rule_of h) (sym (rule_head b l) ∙ sym (ap rule_of e))
     below (no f) l = ne_eqb b (rule_of h) (λ e. f (sym (head_rule h) ∙ sym (ap head_of e)))
 
-pub takes_apart_lem : (t b : ℕ) {r : Bool} (o : Option ℕ) → r ≡ is b o → o ≡ taken t → r ≡ rule_takes_apart t b
+takes_apart_lem : (t b : ℕ) {r : Bool} (o : Option ℕ) → r ≡ is b o → o ≡ taken t → r ≡ rule_takes_apart t b
 unfolding rule_takes_apart
 takes_apart_lem t b o f e = f ∙ ap (is b) (e ∙ taken_is t) ∙ rule_of_lem b (taken_of t) ∙ guard (is_rule t)
   where
     guard : (g : Bool) → (is_rule b && is_head (head_of b) (cond g (taken_by (head_of t)) none)) ≡ (g && (is_rule b && takes_apart (head_of t) (head_of b)))
     guard true = refl
     guard false = and-false (is_rule b)
+
+-- the rule of the number b is what the rule t takes apart, as the code asks
+abbrev takes : ℕ → ℕ → Bool
+takes t b = cond (eqb t 4) (eqb b 3) (cond (eqb t 6) (eqb b 5) (cond (leb 1 t && leb t 2) (eqb b 0) false))
+
+pub taken_apart : (t b : ℕ) → rule_takes_apart t b ≡ takes t b
+unfolding grow
+taken_apart t b =
+    sym (takes_apart_lem t b (taken t) refl refl)
+    ∙ ⊎_elim (λ l. ap (λ (h : ℕ → Bool). h b) (same_below (λ t b. is b (taken t)) takes rules refl t l))
+    (λ l. rw (ne_eqb t 1 (λ e. omega arith), ne_eqb t 2 (λ e. omega arith), ne_eqb t 4 (λ e. omega arith), ne_eqb t 6 (λ e. omega arith), lt-leb t 2 (omega arith), and-false (leb 1 t)))
+    (lt_or_ge t rules)
 
 -- ---- the computed test says what the relation says
 says_head : (b : Head) (o : Option Head) → Says (is_head b o) (o ≡ some b)

@@ -1,7 +1,7 @@
 -- What the code's enums and answers mean in document 01's terms, and notions that only proofs use.
 use Rattle.term.specs.declared.Relation.{Relation as RelationGiven}
 use Rattle.term.specs.declared.Relation.TheVariants.{Equal, Inverse}
-use Rattle.term.specs.{Term.Relation, Term.equal, Term.inverses, Term.Second, Term.absent, Term.second, Term.unary, Term.make, Term.plain, Term.public, Term.private, Term.pair, Term.hash, Term.encryption, Term.symmetric, Term.asymmetric, Term.Shape, Term.atomic, Term.compound, Term.Head, Term.part, Term.decrypt, Computed.head?, Term.Term, Term.atom, Term.node, Term.Operands, Computed.place, Number.rules, Number.table, Number.shape_of, Term.Rec, Term.leaf, Term.branch, Term.message}
+use Rattle.term.specs.{Term.Relation, Term.equal, Term.inverses, Term.Second, Term.absent, Term.second, Term.unary, Term.make, Term.plain, Term.public, Term.private, Term.pair, Term.hash, Term.encryption, Term.symmetric, Term.asymmetric, Term.Shape, Term.atomic, Term.compound, Term.Head, Term.part, Term.decrypt, Computed.head?, Term.Term, Term.atom, Term.node, Term.Operands, Computed.place, Number.table, Number.shape_of, Term.Rec, Term.leaf, Term.branch, Term.message}
 use Rattle.term.specs.declared.kind.Kind.{Kind}
 use Rattle.term.specs.declared.kind.Kind.TheVariants.{Plain, Public, Private, Pair, Enc, Enca, Hash}
 use Rattle.term.specs.declared.kind.UnknownKind.{UnknownKind}
@@ -33,15 +33,10 @@ Decodes n (Ok k) = shape_of n ≡ some (kind_is k)
 Decodes n (Err e) = shape_of n ≡ none
 
 -- one kind is that of public keys and the other that of private ones
-abbrev pub are_inverse_kinds : Kind → Maybe Kind → Bool
-are_inverse_kinds Public (Some Private) = true
-are_inverse_kinds Private (Some Public) = true
+abbrev pub are_inverse_kinds : Kind → Kind → Bool
+are_inverse_kinds Public Private = true
+are_inverse_kinds Private Public = true
 are_inverse_kinds _ _ = false
-
--- the number of a rule, or `rules` where there is none
-abbrev pub rule_is : Maybe ℕ → ℕ
-rule_is None = rules
-rule_is (Some n) = n
 
 -- a record of this shape has one operand
 abbrev pub is_unary : Option Shape → Bool
@@ -57,11 +52,11 @@ heads = map (λ r. r.0) table
 abbrev pub rule_of : Head → ℕ
 rule_of h = place head? heads h
 
--- the rule that builds a term of this shape; `rules`, which is none, where there is no such rule
-abbrev pub builder_of : Option Shape → ℕ
-builder_of none = rules
-builder_of (some (atomic κ)) = rules
-builder_of (some (compound f)) = rule_of (make f)
+-- the rule that builds a term of this shape, where there is one
+abbrev pub builder_of : Option Shape → Maybe ℕ
+builder_of none = None
+builder_of (some (atomic κ)) = None
+builder_of (some (compound f)) = Some (rule_of (make f))
 
 -- the second operand of a record of this shape
 abbrev pub second_of : Option Shape → Second

@@ -3,7 +3,7 @@ ghost use Rattle.std.specs.Prelude.{◌≡◌};
 ghost use Rattle.base.specs.Words.{some};
 ghost use Rattle.term.specs.Term.{symmetric, asymmetric, is_key_for};
 ghost use Rattle.term.specs.Computed.{is_atomic, takes as takes_shape};
-ghost use Rattle.term.specs.Code.{kind_is, shape_read, Decodes, is_unary, builder_of, second_of, rule_is, are_inverse_kinds};
+ghost use Rattle.term.specs.Code.{kind_is, shape_read, Decodes, is_unary, builder_of, second_of, are_inverse_kinds};
 
 use crate::rules;
 
@@ -23,6 +23,7 @@ pub enum Kind {
 #[derive(Clone, Copy, PartialEq, Eq)]
 pub struct UnknownKind(pub u8);
 
+// The numbers stand here a second time, since no derive reads one back.
 impl TryFrom<u8> for Kind {
     type Error = UnknownKind;
 
@@ -67,7 +68,7 @@ impl Kind {
 
     // The rule that builds terms of this kind, where there is one.
     pub fn rule(self) -> Option<u8>
-        ensures { rule_is result ≡ builder_of (some (kind_is self)) }
+        ensures { result ≡ builder_of (some (kind_is self)) }
     {
         match self {
             Kind::Pair => Some(rules::PAIR),
@@ -98,12 +99,12 @@ impl Kind {
     }
 
     // Whether one kind is that of public keys and the other that of private ones.
-    pub fn is_inverse_of(self, other: Option<Kind>) -> bool
+    pub fn is_inverse_of(self, other: Kind) -> bool
         ensures { result ≡ are_inverse_kinds self other }
     {
         matches!(
             (self, other),
-            (Kind::Public, Some(Kind::Private)) | (Kind::Private, Some(Kind::Public))
+            (Kind::Public, Kind::Private) | (Kind::Private, Kind::Public)
         )
     }
 }

@@ -8,7 +8,7 @@ pub mod rules;
 pub use kind::{Kind, UnknownKind};
 
 // What a test asks of two terms: that they are equal, or that the first is a key and the second its inverse.
-#[derive(Clone, Copy)]
+#[derive(Clone, Copy, PartialEq, Eq)]
 pub enum Relation {
     Equal,
     Inverse,

@@ -1,5 +1,5 @@
 // The rules by their numbers, and what the table says of them. They stay numbers: the machine is to match on the rule number.
-ghost use Rattle.std.specs.Prelude.{◌≡◌};
+ghost use Rattle.std.specs.Prelude.{◌≡◌, cond};
 ghost use Rattle.term.specs.Number.{has_one};
 ghost use Rattle.term.specs.Computed.{rule_takes_apart, is_rule};
 
@@ -29,26 +29,27 @@ pub fn is_rule(rule: u8) -> bool
 }
 
 // Whether a rule has one operand: one premise, and one register.
+#[tactic(auto, using(crate::proofs::Rule::one_operand))]
 pub fn has_one(rule: u8) -> bool
     ensures { result ≡ has_one rule }
 {
-    match rule {
-        FST => true,
-        SND => true,
-        HASH => true,
-        _ => false,
-    }
+    matches!(rule, FST | SND | HASH)
+}
+
+// The second of the operands x and y of a rule: one operand stands twice.
+pub fn second_operand(rule: u8, x: u8, y: u8) -> u8
+    ensures { result ≡ cond (has_one rule) x y }
+{
+    if has_one(rule) { x } else { y }
 }
 
 // Whether the rule `taker` takes apart what the rule `builder` builds.
+#[tactic(auto, using(crate::proofs::Rule::taken_apart))]
 pub fn takes_apart(taker: u8, builder: u8) -> bool
     ensures { result ≡ rule_takes_apart taker builder }
 {
-    match taker {
-        FST => builder == PAIR,
-        SND => builder == PAIR,
-        DEC => builder == ENC,
-        DECA => builder == ENCA,
-        _ => false,
-    }
+    matches!(
+        (taker, builder),
+        (FST | SND, PAIR) | (DEC, ENC) | (DECA, ENCA)
+    )
 }

@@ -1,14 +1,12 @@
 -- The pieces of a line, one after the other: a law for each function that writes them.
 use mathlib.Core.Path.{◌≡◌, subst}
 use mathlib.Core.List.{List, [], ◌∷◌, ◌++◌, append_assoc}
-use Prim.Native.Nat.{ℕ, ◌+◌, ◌≤◌}
-use native.Mathlib.Nat.{le_antisymm}
-use native.Mathlib.Numerals.{add-one}
+use Prim.Native.Nat.{ℕ, ◌+◌}
 use Rattle.term.specs.Number.{word_of}
 use Rattle.base.specs.declared.writer.Writer.{Writer}
-use Rattle.base.specs.Answer.{done, Wrote}
-use Rattle.base.proofs.PutLaws.{wrote_none, wrote_then}
-use Rattle.program.specs.Program.{relation_of, relation_word, instruction_at, test_at, Instruction}
+use Rattle.base.specs.{Answer.done, Code.Wrote}
+use Rattle.base.proofs.PutLaws.{wrote_then}
+use Rattle.program.specs.Program.{relation_of, relation_word, test_at, Instruction}
 use Rattle.program.specs.declared.Instruction.{Instruction as InstructionRead}
 use Rattle.program.specs.declared.Test.{Test as TestRead}
 use Rattle.program.specs.Code.{instruction_in, test_in}
@@ -29,18 +27,6 @@ module _ {w0 w1 w2 w3 w4 w5 w6 w7 : Writer} {v : ℕ} where
   unfolding test_line
   test_put t l0 d l1 l2 l3 l4 e l5 l6 =
       rw (← d, ← e) (wrote_then (wrote_then (wrote_then (wrote_then (wrote_then (wrote_then l0 l1) l2) l3) l4) l5) l6)
-
--- all lines of a program
-pub steps_none : {w : Writer} (r : ℕ) (page : List ℕ) → Wrote w (step_lines r page 0) w
-unfolding step_lines
-steps_none r page = wrote_none
-
-pub steps_more : {u v w : Writer} {k : ℕ} {x : Instruction} (r : ℕ) (page : List ℕ) (n : ℕ) → Wrote u (step_lines r page n) v → k ≡ n → x ≡ instruction_at page n → Wrote v (step_line (r + k) x) w → Wrote u (step_lines r page (n + 1)) w
-unfolding step_lines
-steps_more r page n p e f q = rw add-one (wrote_then p (rw (e, f) at q))
-
-pub steps_all : {u v : Writer} (r : ℕ) (page : List ℕ) (m n : ℕ) → m ≤ n → n ≤ m → Wrote u (step_lines r page m) v → Wrote u (step_lines r page n) v
-steps_all r page m n l h p = rw (← (le_antisymm l h)) p
 
 -- what is printed of a refusal, and of an acceptance
 module _ {w0 w1 w2 w3 w4 w5 : Writer} {w : ℕ} where

@@ -1,12 +1,15 @@
 // The text that the program `verdict` prints, written into a buffer that the caller lends.
 // Promises: every function is total. What it writes is the text that a definition of specs/ gives, as far as the buffer reaches,
 // no other byte changes, and the result is the place reached (`Puts`).
+// Each piece is put by a function over a `Writer`, and no type is `Display`: `write!` says what was written only where it returns `Ok`, and never
+// that it does, so it promises no text.
 #![tactic(auto)]
 
 ghost use Rattle.std.specs.Prelude.{◌≡◌, ◌+◌, ◌<◌};
 ghost use Rattle.term.specs.Number.{word_of};
 ghost use Rattle.term.specs.Code.{relation_is};
-ghost use Rattle.base.specs.Answer.{done, Puts, Wrote};
+ghost use Rattle.base.specs.Answer.{done, Puts};
+ghost use Rattle.base.specs.Code.{Wrote};
 ghost use Rattle.program.specs.Program.{relation_of, relation_word, row_of, instruction_at, test_at};
 ghost use Rattle.program.specs.Code.{instruction_in, test_in};
 ghost use Rattle.text.specs.Text.{decimal, register_text, second_text, step_line, step_lines, test_line, answer_text, refused_text};
@@ -34,7 +37,7 @@ fn word_of(rule: u8) -> &'static [u8]
     }
 }
 
-// A number in decimal. Not by `write!`: its contract says what was written only where it returns `Ok`, and never that it does.
+// A number in decimal.
 fn put_number(out: &mut Writer, n: u16)
     ensures { Wrote out.old (decimal n) out.new }
 {

@@ -10,16 +10,37 @@ use lib.Seq.{get_or-set_same, get_or-set_other, get_or-append_seam, length-take-
 use Rattle.std.proofs.Common.{append_assoc}
 use Rattle.std.proofs.lemmas.List.{get_or-replicate, get_or_past}
 use Rattle.std.specs.List.{push}
+use Rattle.std.specs.Prelude.{Some}
 use Rattle.base.proofs.{Order.lt_or_ge, Pigeonhole.pigeonhole}
 use Rattle.submission.specs.Record.{terms}
 use Rattle.submission.specs.Code.{TableRead}
 use Rattle.submission.proofs.Theory.ListedTerms.{facts}
-use Rattle.deduction.specs.Saturation.{start_mark, ComesFrom, How, Among, Queue}
-use Rattle.deduction.specs.Code.{Reached}
-use Rattle.deduction.proofs.{Clauses.comes_by, MarkOrder.among_marked}
+use Rattle.deduction.specs.Saturation.{start_mark, How, Among, Queue}
+use Rattle.deduction.specs.Code.{Marks, mark_of, Reached}
+use Rattle.deduction.specs.declared.worklist.Origin.{Origin}
+use Rattle.deduction.specs.declared.worklist.Origin.TheVariants.{Record}
+use Rattle.deduction.proofs.{MarkArrays.not_started, Clauses.comes_by, MarkOrder.among_marked}
 use Rattle.witness.specs.declared.marked.Choice.{Choice}
-use Rattle.witness.specs.Code.{concluding_step, concluding_second, ConcludingPremise, StartedOrHasStep, with_term, ChosenOne, Chosen}
+use Rattle.witness.specs.Code.{concluding_step, concluding_second, origin_record, step_by, ConcludingPremise, StepFrom, HasStep, StartedOrHasStep, with_term, ChosenOne, Chosen}
 use Rattle.witness.proofs.StepsFrom.{Infers, infers}
+
+-- ---- the step of a term, by its mark
+pub step_is : {s : List ℕ} {marks : Marks} {n : ℕ} → HasStep s marks n → step_by s n (mark_of marks n) ≡ Some (concluding_step s marks n)
+step_is {s} {n = n} h = ap (step_by s n) h.marked
+
+-- of a mark that names a record
+pub step_of : {s : List ℕ} {marks : Marks} {n w u : ℕ} {o : Origin} → StartedOrHasStep s marks n → w ≡ n → mark_of marks w ≡ Some o → o ≡ Record u → StepFrom s u n
+step_of {s} {marks} {n} {u = u} h g d f =
+    let e : mark_of marks n ≡ Some (Record u) = rw (← g) d ∙ ap Some f in
+    ⊎_elim (λ z. not_started (sym e ∙ z)) (λ z. let f : origin_record (mark_of marks n) ≡ u = ap origin_record e in subst (λ k. StepFrom s k n) f z.step) h.is
+
+-- a term that was reached is from the start, or has a step
+started_or_has_step : {s : List ℕ} {marks : Marks} {n : ℕ} {Had : ℕ → Type 0} → TableRead s → n < terms s → ((x : ℕ) → Had x → x < terms s) →
+    How s Had (mark_of marks n) n → StartedOrHasStep s marks n
+started_or_has_step v l f (inl e) = record { is = inl e }
+started_or_has_step {s} {marks} {n} v l f (inr (u, a, e, x)) =
+    let z : origin_record (mark_of marks n) ≡ u = ap origin_record e in
+    record { is = inr (record { marked = e ∙ ap (λ k. Some (Record k)) (sym z); step = rw z (record { from = a; below = l; comes = comes_by v a (λ k _ m. f k m) x }) }) }
 
 -- ---- a term more that is needed
 abbrev pub Needed : List Bool → ℕ → Type 0
@@ -40,23 +61,23 @@ none_needed : (x n : ℕ) → Needed (replicate n false) x → ⊥
 none_needed x n e = grind (arith, get_or-replicate, get_or_past, length-replicate)
 
 -- ---- the loop of `choose`: the terms from place k of the order on are treated
-pub record Choosing (s marks order : List ℕ) (end t : ℕ) (c : Choice) (k : ℕ) : Type 0 where
+pub record Choosing (s : List ℕ) (marks : Marks) (order : List ℕ) (end t : ℕ) (c : Choice) (k : ℕ) : Type 0 where
   pub long : length c.chosen ≡ 256
   pub all : length c.needed ≡ 256
   pub within : c.from ≤ 256
   pub left : k ≤ end
   pub counted : 256 + k ≤ c.from + end
   pub placed : (i : ℕ) → c.from ≤ i → i < 256 → (j : ℕ) × (k ≤ j) × (j < end) × (get_or order j 0 ≡ get_or c.chosen i 0)
-  pub new : (i : ℕ) → c.from ≤ i → i < 256 → get_or marks (get_or c.chosen i 0) 0 ≡ start_mark → ⊥
+  pub new : (i : ℕ) → c.from ≤ i → i < 256 → mark_of marks (get_or c.chosen i 0) ≡ start_mark → ⊥
   pub apart : (i j : ℕ) → c.from ≤ i → i < j → j < 256 → get_or c.chosen i 0 ≡ get_or c.chosen j 0 → ⊥
   pub founded : (i : ℕ) → c.from ≤ i → i < 256 → (x : ℕ) → ConcludingPremise s marks (get_or c.chosen i 0) x →
-      (get_or marks x 0 ≡ start_mark) ⊎ (((j : ℕ) × (c.from ≤ j) × (j < i) × (get_or c.chosen j 0 ≡ x)) ⊎ (Among order k x × Needed c.needed x))
+      (mark_of marks x ≡ start_mark) ⊎ (((j : ℕ) × (c.from ≤ j) × (j < i) × (get_or c.chosen j 0 ≡ x)) ⊎ (Among order k x × Needed c.needed x))
   pub used : (i : ℕ) → c.from ≤ i → i < 255 → (j : ℕ) × (i < j) × (j < 256) × ConcludingPremise s marks (get_or c.chosen j 0) (get_or c.chosen i 0)
   pub asked : (x : ℕ) → Needed c.needed x → (x ≡ t) ⊎ ((i : ℕ) × (c.from ≤ i) × (i < 256) × ConcludingPremise s marks (get_or c.chosen i 0) x)
-  pub last : ((c.from ≡ 256) × (get_or marks t 0 ≡ start_mark))
+  pub last : ((c.from ≡ 256) × (mark_of marks t ≡ start_mark))
       ⊎ (((c.from ≡ 256) × Among order k t × Needed c.needed t) ⊎ ((c.from < 256) × (get_or c.chosen 255 0 ≡ t)))
 
-pub choosing_none : {s marks order chosen : List ℕ} {end t w : ℕ} → TableRead s → Queue s marks order end → t < terms s → Reached marks t →
+pub choosing_none : {s : List ℕ} {marks : Marks} {order chosen : List ℕ} {end t w : ℕ} → TableRead s → Queue s marks order end → t < terms s → Reached marks t →
     length chosen ≡ 256 → w ≡ t → Choosing s marks order end t (record { needed = set (replicate 256 false) w true; chosen = chosen; from = 256 }) end
 choosing_none {s} {t = t} {w} v q l r e f =
     let zeros₀ : List Bool = replicate 256 false in
@@ -77,7 +98,7 @@ choosing_none {s} {t = t} {w} v q l r e f =
       last = inr (inl (refl, q.listed t l r, noted zeros₀ b));
     })
 
-module _ {s marks order : List ℕ} {c : Choice} {end t k : ℕ} (v : TableRead s) (q : Queue s marks order end) (p : Choosing s marks order end t c k) (b : 0 < k) where
+module _ {s : List ℕ} {marks : Marks} {order : List ℕ} {c : Choice} {end t k : ℕ} (v : TableRead s) (q : Queue s marks order end) (p : Choosing s marks order end t c k) (b : 0 < k) where
   abbrev chosen : List ℕ
   chosen = c.chosen
 
@@ -97,16 +118,13 @@ module _ {s marks order : List ℕ} {c : Choice} {end t k : ℕ} (v : TableRead 
   next_room = omega (arith, p.counted, q.room.enough)
 
   pub next_ends : StartedOrHasStep s marks (get_or order (k - 1) 0)
-  next_ends = record {
-    is = λ d. ⊎_elim (λ e. absurd (d e)) (λ (u, l, e, x). record { long = q.room.long; some = omega arith; from = omega arith }) (q.how (k - 1) here);
-    all = q.room.long;
-  }
+  next_ends = started_or_has_step v (q.terms (k - 1) here) (λ x m. (among_marked q (omega arith) m).0) (q.how (k - 1) here)
 
   among_here : (x : ℕ) → Among order k x → Among order (k - 1) x ⊎ (n ≡ x)
   among_here x (j, c, e) = ⊎_elim (λ l. inl (j, l, e)) (λ l. let z : j ≡ k - 1 = omega arith in inr (ap (λ i. get_or order i 0) (sym z) ∙ e)) (lt_or_ge j (k - 1))
 
   -- the term is passed over
-  choosing_past : (get_or needed n false ≡ false) ⊎ (get_or marks n 0 ≡ start_mark) → Choosing s marks order end t c (k - 1)
+  choosing_past : (get_or needed n false ≡ false) ⊎ (mark_of marks n ≡ start_mark) → Choosing s marks order end t c (k - 1)
   choosing_past w = record {
     long = p.long;
     all = p.all;
@@ -128,11 +146,11 @@ module _ {s marks order : List ℕ} {c : Choice} {end t k : ℕ} (v : TableRead 
   }
 
   -- the term is chosen
-  module _ (f : Needed needed n) (g : get_or marks n 0 ≡ start_mark → ⊥) where
+  module _ (f : Needed needed n) (g : mark_of marks n ≡ start_mark → ⊥) where
     premises : (x : ℕ) → ConcludingPremise s marks n x → Among order (k - 1) x
     premises x y = ⊎_elim (λ e. absurd (g e))
         (λ (u, l, e, c).
-        let m : get_or marks n 0 - 1 ≡ u = omega arith in
+        let m : origin_record (mark_of marks n) ≡ u = ap origin_record e in
         let i : Infers s (Among order (k - 1)) n (concluding_step s marks n) = rw m (infers v l (q.terms (k - 1) here) c) in
         ⊎_elim (λ z. rw z i.first) (λ z. rw z i.second) y) (q.how (k - 1) here)
 
@@ -203,11 +221,11 @@ module _ {s marks order : List ℕ} {c : Choice} {end t k : ℕ} (v : TableRead 
       counted = omega (arith, p.counted);
       placed = each (λ i w. i < 256 → (j : ℕ) × (k - 1 ≤ j) × (j < end) × (get_or order j 0 ≡ w))
           (λ _. (k - 1, omega arith, here, refl)) (λ i c d. let (j, a, x, e) = p.placed i c d in (j, omega arith, x, e));
-      new = each (λ i w. i < 256 → get_or marks w 0 ≡ start_mark → ⊥) (λ _. g) p.new;
+      new = each (λ i w. i < 256 → mark_of marks w ≡ start_mark → ⊥) (λ _. g) p.new;
       apart = λ i j c l d. each (λ i w. i < j → w ≡ get_or chosen' j 0 → ⊥)
           (λ l e. other j (omega arith) d (e ∙ at_old j (omega arith))) (λ i c l e. p.apart i j c l d (e ∙ at_old j (omega arith))) i c l;
       founded = each (λ i w. i < 256 → (x : ℕ) → ConcludingPremise s marks w x →
-          (get_or marks x 0 ≡ start_mark) ⊎ (((j : ℕ) × (from - 1 ≤ j) × (j < i) × (get_or chosen' j 0 ≡ x)) ⊎ (Among order (k - 1) x × Needed needed' x)))
+          (mark_of marks x ≡ start_mark) ⊎ (((j : ℕ) × (from - 1 ≤ j) × (j < i) × (get_or chosen' j 0 ≡ x)) ⊎ (Among order (k - 1) x × Needed needed' x)))
           (λ _ x y. inr (inr (premises x y, asks x y)))
           (λ i c d x y. ⊎_elim (λ z. inl z) (⊎_elim
           (λ (j, a, l, e). inr (inl (j, omega arith, l, at_old j a ∙ e)))
@@ -227,24 +245,24 @@ module _ {s marks order : List ℕ} {c : Choice} {end t k : ℕ} (v : TableRead 
   choosing_more = ⊎_elim (λ (w, e). rw e (choosing_past w)) (λ (f, g, e). rw e (choosing_new f g))
 
 -- ---- all are treated
-module _ {s marks order : List ℕ} {h : Choice} {end t k : ℕ} (v : TableRead s) (q : Queue s marks order end) (p : Choosing s marks order end t h k) (b : k ≤ 0) where
-  how_chosen : (i : ℕ) → h.from ≤ i → i < 256 → (u : ℕ) × (u < terms s) × (get_or marks (get_or h.chosen i 0) 0 ≡ u + 1) × ComesFrom s (λ x. x < terms s) u (get_or h.chosen i 0)
-  how_chosen i c d =
+module _ {s : List ℕ} {marks : Marks} {order : List ℕ} {h : Choice} {end t k : ℕ} (v : TableRead s) (q : Queue s marks order end) (p : Choosing s marks order end t h k) (b : k ≤ 0) where
+  have_steps : (i : ℕ) → h.from ≤ i → i < 256 → HasStep s marks (get_or h.chosen i 0)
+  have_steps i c d =
       let (j, _, l, e) = p.placed i c d in
-      let w : How s (Among order j) (get_or marks (get_or h.chosen i 0) 0) (get_or h.chosen i 0) = rw e at (q.how j l) in
-      ⊎_elim (λ z. absurd (p.new i c d z)) (λ (u, a, z, x). (u, a, z, comes_by v a (λ x' _ m. (among_marked q (omega arith) m).0) x)) w
+      let w : StartedOrHasStep s marks (get_or h.chosen i 0) = rw e at (started_or_has_step v (q.terms j l) (λ x m. (among_marked q (omega arith) m).0) (q.how j l)) in
+      ⊎_elim (λ z. absurd (p.new i c d z)) (λ z. z) w.is
 
   pub choosing_end : Chosen s marks t h.chosen h.from
   choosing_end = record {
     steps = record {
       long = p.long;
       within = p.within;
-      concluded = λ i c d. let (u, l, e, _) = how_chosen i c d in record { long = q.room.long; some = omega arith; from = omega arith };
+      concluded = have_steps;
     };
     few = let m = pigeonhole end (terms s) (λ i. get_or order i 0) q.terms q.once in omega (arith, p.counted);
     below = λ i c d. let (j, _, l, e) = p.placed i c d in rw e at (q.terms j l);
     new = p.new;
-    comes = λ i c d. let (u, l, e, x) = how_chosen i c d in let z : get_or marks (get_or h.chosen i 0) 0 - 1 ≡ u = omega arith in rw z x;
+    comes = λ i c d. (have_steps i c d).step.comes;
     apart = p.apart;
     founded = λ i c d x y. ⊎_elim (λ z. inl z) (⊎_elim (λ z. inr z) (λ ((j, l, _), _). absurd (omega arith))) (p.founded i c d x y);
     used = p.used;
@@ -252,12 +270,12 @@ module _ {s marks order : List ℕ} {h : Choice} {end t k : ℕ} (v : TableRead 
   }
 
 -- ---- the loop goes back over the reached terms: `rest` is what is left of them
-pub record Leaving (s marks order : List ℕ) (end t : ℕ) (c : Choice) (rest : List ℕ) : Type 0 where
+pub record Leaving (s : List ℕ) (marks : Marks) (order : List ℕ) (end t : ℕ) (c : Choice) (rest : List ℕ) : Type 0 where
   pub after : List ℕ
   pub left : order ≡ rest ++ after
   pub choosing : Choosing s marks order end t c (length rest)
 
-pub leaving_none : {s marks order chosen rest : List ℕ} {end t w : ℕ} → TableRead s → Queue s marks order end → t < terms s → Reached marks t → length chosen ≡ 256 → w ≡ t → rest ≡ take end order →
+pub leaving_none : {s : List ℕ} {marks : Marks} {order chosen rest : List ℕ} {end t w : ℕ} → TableRead s → Queue s marks order end → t < terms s → Reached marks t → length chosen ≡ 256 → w ≡ t → rest ≡ take end order →
     Leaving s marks order end t (record { needed = set (replicate 256 false) w true; chosen = chosen; from = 256 }) rest
 leaving_none {order = order} {end = end} v q l r e f g =
     let n : length (take end order) ≡ end = length-take-le end order (omega (arith, q.room.enough, q.room.order_long)) in
@@ -267,7 +285,7 @@ leaving_none {order = order} {end = end} v q l r e f g =
       choosing = subst (Choosing _ _ _ _ _ _) (sym n ∙ ap length (sym g)) (choosing_none v q l r e f);
     }
 
-module _ {s marks order rest : List ℕ} {c : Choice} {end t : ℕ} (rest' : List ℕ) (x : ℕ) (v : TableRead s) (q : Queue s marks order end) (p : Leaving s marks order end t c rest) (e : rest ≡ push rest' x) where
+module _ {s : List ℕ} {marks : Marks} {order rest : List ℕ} {c : Choice} {end t : ℕ} (rest' : List ℕ) (x : ℕ) (v : TableRead s) (q : Queue s marks order end) (p : Leaving s marks order end t c rest) (e : rest ≡ push rest' x) where
   long : length rest ≡ length rest' + 1
   long = ap length e ∙ length-append rest' (x ∷ [])
 
@@ -296,5 +314,5 @@ module _ {s marks order rest : List ℕ} {c : Choice} {end t : ℕ} (rest' : Lis
     choosing = subst (Choosing s marks order end t _) one_less (choosing_more v q p.choosing some (rw item d));
   }
 
-pub leaving_end : {s marks order rest : List ℕ} {c : Choice} {end t : ℕ} → TableRead s → Queue s marks order end → Leaving s marks order end t c rest → length rest ≡ 0 → Chosen s marks t c.chosen c.from
+pub leaving_end : {s : List ℕ} {marks : Marks} {order rest : List ℕ} {c : Choice} {end t : ℕ} → TableRead s → Queue s marks order end → Leaving s marks order end t c rest → length rest ≡ 0 → Chosen s marks t c.chosen c.from
 leaving_end v q p e = choosing_end v q p.choosing (omega (arith, e))

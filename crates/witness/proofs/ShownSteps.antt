@@ -10,7 +10,7 @@ use lib.ListN.{length, get_or, take, drop, length-drop}
 use lib.Seq.{sets, length-take-le}
 use Rattle.std.proofs.lemmas.List.{get_or-take, get_or-drop}
 use Rattle.base.specs.declared.writer.Writer.{Writer}
-use Rattle.base.specs.{Words.fours, Words.byte, Answer.Wrote}
+use Rattle.base.specs.{Words.fours, Words.byte, Code.Wrote}
 use Rattle.base.proofs.{Fours.fours_length, Fours.fours_at, PutLaws.wrote_none, PutLaws.wrote_then}
 use Rattle.term.specs.Term.{Term}
 use Rattle.submission.specs.Record.{terms, second_for, term, InKnowledge}
@@ -19,19 +19,21 @@ use Rattle.submission.proofs.Theory.ListedTerms.{facts}
 use Rattle.derivation.specs.Step.{RecordFits}
 use Rattle.derivation.specs.declared.Step.{Step}
 use Rattle.deduction.specs.Computed.{entry_marks}
-use Rattle.deduction.specs.Code.{SameMarks}
+use Rattle.deduction.specs.Code.{Marks, mark_of, SameMarks}
 use Rattle.deduction.specs.Saturation.{start_mark, AllReached}
-use Rattle.deduction.proofs.{Theory.Exactness.in_knowledge_iff}
+use Rattle.deduction.proofs.{BuildMemo.same_some, Theory.Exactness.in_knowledge_iff}
+use Rattle.std.specs.Prelude.{Some}
+use Rattle.witness.proofs.ChoiceLaws.{step_is}
 use Rattle.witness.specs.Deduction.{rule_in, p_in, q_in, conclusion_in, PremiseIn, KnownBefore, Deduction}
-use Rattle.witness.specs.Code.{concluding_step, concluding_second, ConcludingPremise, HaveSteps, ChosenSteps, Chosen, step_bytes, first_steps, steps_bytes}
+use Rattle.witness.specs.Code.{concluding_step, concluding_second, step_by, ConcludingPremise, StartedOrHasStep, HaveSteps, ChosenSteps, Chosen, step_bytes, first_steps, steps_bytes}
 use Rattle.witness.proofs.StepsFrom.{Infers, infers}
 
 -- ---- the loop of `put_steps`: the records of the first i steps are written
-pub record Putting (s marks chosen : List ℕ) (w : Writer) (i : ℕ) (v : Writer) : Type 0 where
+pub record Putting (s : List ℕ) (marks : Marks) (chosen : List ℕ) (w : Writer) (i : ℕ) (v : Writer) : Type 0 where
   pub within : i ≤ length chosen
   pub wrote : Wrote w (first_steps s marks chosen i) v
 
-module _ {s marks chosen : List ℕ} where
+module _ {s : List ℕ} {marks : Marks} {chosen : List ℕ} where
   pub putting_none : {w : Writer} → Putting s marks chosen w 0 w
   unfolding fours
   putting_none = record { within = omega arith; wrote = wrote_none }
@@ -47,6 +49,14 @@ module _ {s marks chosen : List ℕ} where
         let z : i ≡ length chosen = omega (arith, p.within) in
         g ∙ p.wrote.puts.stored ∙ rw (e, f, z)
 
+-- each of the terms has a step
+module _ {s : List ℕ} {marks : Marks} {chosen : List ℕ} {i : ℕ} (h : HaveSteps s marks chosen) (l : i < length chosen) where
+  pub has_step : StartedOrHasStep s marks (get_or chosen i 0)
+  has_step = record { is = inr (h.concluded i l) }
+
+  pub the_step : {a : Step} → Some a ≡ step_by s (get_or chosen i 0) (mark_of marks (get_or chosen i 0)) → a ≡ concluding_step s marks (get_or chosen i 0)
+  the_step f = same_some (f ∙ step_is (h.concluded i l))
+
 -- records that are alike
 alike : (f g : ℕ → List ℕ) (n : ℕ) → ((i : ℕ) → i < n → f i ≡ g i) → fours f n ≡ fours g n
 unfolding fours
@@ -54,7 +64,7 @@ alike f g zero h = refl
 alike f g (suc n) h = rw (alike f g n (λ i l. h i (omega arith)), h n (omega arith))
 
 -- each of the chosen terms alone has a step
-pub part_steps : {s marks chosen : List ℕ} {from : ℕ} → ChosenSteps s marks chosen from → HaveSteps s marks (take (length chosen - from) (drop from chosen))
+pub part_steps : {s : List ℕ} {marks : Marks} {chosen : List ℕ} {from : ℕ} → ChosenSteps s marks chosen from → HaveSteps s marks (take (length chosen - from) (drop from chosen))
 part_steps {chosen = chosen} {from} c = record {
   concluded = λ i b.
       let n : length (take (length chosen - from) (drop from chosen)) ≡ 256 - from = omega (arith, c.long, length-take-le (length chosen - from) (drop from chosen) (omega (arith, length-drop from chosen))) in
@@ -62,8 +72,8 @@ part_steps {chosen = chosen} {from} c = record {
 }
 
 -- ---- terms from the start are those of the knowledge
-module _ {s marks order : List ℕ} {start : List Bool} {end : ℕ} (v : TableRead s) (m : SameMarks s start (entry_marks s)) (w : AllReached s start marks order end) where
-  pub started_iff : (n : ℕ) → n < terms s → (get_or marks n 0 ≡ start_mark) ↔ InKnowledge s (term s n)
+module _ {s : List ℕ} {marks : Marks} {order : List ℕ} {start : List Bool} {end : ℕ} (v : TableRead s) (m : SameMarks s start (entry_marks s)) (w : AllReached s start marks order end) where
+  pub started_iff : (n : ℕ) → n < terms s → (mark_of marks n ≡ start_mark) ↔ InKnowledge s (term s n)
   started_iff n l =
       let (f, g) = w.from_start n l in
       let (h, k) = in_knowledge_iff (facts v) (term s n) in (
@@ -75,7 +85,7 @@ module _ {s marks order : List ℕ} {start : List Bool} {end : ℕ} (v : TableRe
       )
 
 -- ---- the steps are a deduction
-module _ {s marks chosen : List ℕ} {t from : ℕ} (v : TableRead s) (known : (n : ℕ) → n < terms s → (get_or marks n 0 ≡ start_mark) ↔ InKnowledge s (term s n)) (lt : t < terms s) (c : Chosen s marks t chosen from) where
+module _ {s : List ℕ} {marks : Marks} {chosen : List ℕ} {t from : ℕ} (v : TableRead s) (known : (n : ℕ) → n < terms s → (mark_of marks n ≡ start_mark) ↔ InKnowledge s (term s n)) (lt : t < terms s) (c : Chosen s marks t chosen from) where
   abbrev count : ℕ
   count = 256 - from
 
@@ -91,7 +101,7 @@ module _ {s marks chosen : List ℕ} {t from : ℕ} (v : TableRead s) (known : (
     low = c.below (from + i) (omega arith) (omega arith)
 
     step : Infers s (λ x. x < terms s) (chosen_at i) (concluding_step s marks (chosen_at i))
-    step = infers v (c.steps.concluded (from + i) (omega arith) (omega arith)).from low (c.comes (from + i) (omega arith) (omega arith))
+    step = infers v (c.steps.concluded (from + i) (omega arith) (omega arith)).step.from low (c.comes (from + i) (omega arith) (omega arith))
 
     byte_is : (j : ℕ) → j < 4 → byte l (4 * i + j) ≡ byte (step_bytes (concluding_step s marks (chosen_at i))) j
     byte_is j m = fours_at (λ i. step_bytes (concluding_step s marks (get_or chosen (from + i) 0))) (λ i. refl) (256 - from) i j b m

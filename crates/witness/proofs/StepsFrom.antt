@@ -6,12 +6,13 @@ use mathlib.Core.List.{List}
 use mathlib.Core.Option.{some}
 use Prim.Native.Nat.{ℕ, ◌<◌}
 use native.Mathlib.Omega.{arith}
+use Rattle.std.specs.Option.{option_map}
 use lib.Dec.{eqb}
 use borrow.Author.Tests.{eq-eqb, ne_eqb, eqb-true, eqb-false}
 use Rattle.term.specs.Term.{symmetric, asymmetric, left, right, pair, hash, encryption, unary, Second, absent, anything, key_for, second, make, part, Shape, atomic, compound}
-use Rattle.term.specs.{Number.shape_of, Number.head_of, Number.has_one, Code.rule_of, Code.builder_of}
+use Rattle.term.specs.{Number.shape_of, Number.rules, Number.head_of, Number.has_one, Code.rule_of, Code.builder_of}
 use Rattle.term.proofs.{Rule.head_rule, Rule.rule_below, KindLaws.shape_kind}
-use Rattle.std.specs.Prelude.{Option as Maybe, Some, None}
+use Rattle.std.specs.Prelude.{Option as Maybe, Some, None, unwrap_or, is_some}
 use Rattle.std.specs.Option.{option_eq}
 use Rattle.term.specs.Computed.{kind_of}
 use Rattle.term.specs.Code.{kind_is, shape_read}
@@ -23,16 +24,16 @@ use Rattle.submission.specs.Check.{HasSecond, Shaped}
 use Rattle.submission.specs.Code.{TableRead}
 use Rattle.submission.specs.{Record.terms, Record.kind_at, Record.x_at, Record.y_at, Record.record_at, Record.second_for, Computed.are_inverse}
 use Rattle.submission.proofs.Theory.ListedTerms.{facts}
-use Rattle.inverse.specs.Computed.{inverse_of}
+use Rattle.inverse.specs.Code.{found_inverse}
 use Rattle.derivation.specs.Step.{RecordFits}
 use Rattle.derivation.specs.declared.Step.{Step}
 use Rattle.derivation.proofs.Theory.StepMeaning.{record_fits}
 use Rattle.deduction.specs.declared.opening.Opening.{Opening}
-use Rattle.deduction.specs.declared.opening.Opening.TheVariants.{Freely, With, Shut}
+use Rattle.deduction.specs.declared.opening.Opening.TheVariants.{Freely, With}
 use Rattle.deduction.specs.Code.{parts_of, opening_in, opening_of}
 use Rattle.deduction.specs.Saturation.{ComesFrom, from_parts, from_pair, from_key}
-use Rattle.deduction.proofs.{BuildMemo.shape_record, OpeningKeys.the_inverse, RecordOpening.with_listed}
-use Rattle.witness.specs.Code.{built_step, part_step, with_step, step_from}
+use Rattle.deduction.proofs.{BuildMemo.shape_record, OpeningKeys.the_inverse, RecordOpening.with_listed, Working.by_inverse}
+use Rattle.witness.specs.Code.{StepFrom, built_step, part_step, with_step, step_from}
 
 -- ---- a kind that is read
 -- whether the kind that is read is that of the symmetric cipher
@@ -77,8 +78,8 @@ module _ {s : List ℕ} (v : TableRead s) {Had : ℕ → Type 0} {u n : ℕ} (l 
           let w : ◌≡◌ {A = ℕ × ℕ} (x_at s n, cond (unary (second f)) (x_at s n) (y_at s n)) (x, y) = cc in
           let ex : x_at s n ≡ x = ap (λ (a, b). a) w in
           let ey : cond (unary (second f)) (x_at s n) (y_at s n) ≡ y = ap (λ (a, b). b) w in
-          let r : builder_of (shape_of (kind_at s n)) ≡ rule_of (make f) = ap builder_of e in
-          let head : head_of (builder_of (shape_of (kind_at s n))) ≡ make f = ap head_of r ∙ head_rule (make f) in
+          let r : unwrap_or (builder_of (shape_of (kind_at s n))) rules ≡ rule_of (make f) = ap (λ o. unwrap_or (builder_of o) rules) e in
+          let head : head_of (unwrap_or (builder_of (shape_of (kind_at s n))) rules) ≡ make f = ap head_of r ∙ head_rule (make f) in
           record {
             fits = record_fits (facts v) _ _ _ _ (rw r (rule_below (make f))) (omega arith) (below (second f) h) k (rw head (shape_kind _ _ e, (refl, refl)));
             first = rw ex a;
@@ -87,27 +88,27 @@ module _ {s : List ℕ} (v : TableRead s) {Had : ℕ → Type 0} {u n : ℕ} (l 
           }
 
   -- taken from a pair
-  infers_part : {x y : ℕ} → opening_of s u ≡ Freely x y → (n ≡ x) ⊎ (n ≡ y) → Had u → (n < u) × Infers s Had n (part_step u x n)
+  infers_part : {x y : ℕ} → opening_of s u ≡ Some (Freely x y) → (n ≡ x) ⊎ (n ≡ y) → Had u → (n < u) × Infers s Had n (part_step u x n)
   unfolding second_for has_one head_of
   infers_part {x} {y} o i a = go ((facts v).good u l).shape ((facts v).good u l).has ((facts v).good u l).fits
     where
-      clash : {z : Opening} → opening_of s u ≡ z → z ≡ Freely x y
+      clash : {z : Maybe Opening} → opening_of s u ≡ z → z ≡ Some (Freely x y)
       clash e = sym e ∙ o
 
       go : (z : Shape) → shape_of (kind_at s u) ≡ some z → Shaped s u z → (n < u) × Infers s Had n (part_step u x n)
-      go (atomic κ) e w = absurd (let z : Shut ≡ Freely x y = clash (ap (opening_in s) (shape_record s u (atomic κ) e)) in let d : ◌≡◌ {A = ℕ} 0 1 = cc in omega arith)
-      go (compound hash) e w = absurd (let z : Shut ≡ Freely x y = clash (ap (opening_in s) (shape_record s u (compound hash) e)) in let d : ◌≡◌ {A = ℕ} 0 1 = cc in omega arith)
+      go (atomic κ) e w = absurd (let z : None ≡ Some (Freely x y) = clash (ap (opening_in s) (shape_record s u (atomic κ) e)) in let d : ◌≡◌ {A = ℕ} 0 1 = cc in omega arith)
+      go (compound hash) e w = absurd (let z : None ≡ Some (Freely x y) = clash (ap (opening_in s) (shape_record s u (compound hash) e)) in let d : ◌≡◌ {A = ℕ} 0 1 = cc in omega arith)
       go (compound (encryption symmetric)) e w =
-          absurd (let z : With (x_at s u) (y_at s u) ≡ Freely x y = clash (ap (opening_in s) (shape_record s u (compound (encryption symmetric)) e)) in let d : ◌≡◌ {A = ℕ} 0 1 = cc in omega arith)
+          absurd (let z : Some (With (x_at s u) (y_at s u)) ≡ Some (Freely x y) = clash (ap (opening_in s) (shape_record s u (compound (encryption symmetric)) e)) in let d : ◌≡◌ {A = ℕ} 0 1 = cc in omega arith)
       go (compound (encryption asymmetric)) e w =
-          absurd (no_pair (eqb (inverse_of s (y_at s u)) 255) (clash (ap (opening_in s) (shape_record s u (compound (encryption asymmetric)) e))))
+          absurd (no_pair (found_inverse s (y_at s u)) (clash (ap (opening_in s) (shape_record s u (compound (encryption asymmetric)) e))))
         where
-          no_pair : (b : Bool) → cond b Shut (With (x_at s u) (inverse_of s (y_at s u))) ≡ Freely x y → ⊥
-          no_pair true z = let d : ◌≡◌ {A = ℕ} 0 1 = cc in omega arith
-          no_pair false z = let d : ◌≡◌ {A = ℕ} 0 1 = cc in omega arith
+          no_pair : (o : Maybe ℕ) → option_map (With (x_at s u)) o ≡ Some (Freely x y) → ⊥
+          no_pair None z = let d : ◌≡◌ {A = ℕ} 0 1 = cc in omega arith
+          no_pair (Some j) z = let d : ◌≡◌ {A = ℕ} 0 1 = cc in omega arith
       go (compound pair) e (lx, h) = (low, by (eqb x n) refl)
         where
-          parts : Freely (x_at s u) (y_at s u) ≡ Freely x y
+          parts : Some (Freely (x_at s u) (y_at s u)) ≡ Some (Freely x y)
           parts = clash (ap (opening_in s) (shape_record s u (compound pair) e))
 
           ex : x_at s u ≡ x
@@ -134,23 +135,23 @@ module _ {s : List ℕ} (v : TableRead s) {Had : ℕ → Type 0} {u n : ℕ} (l 
           }
 
   -- taken from an encryption
-  infers_opened : {key : ℕ} → opening_of s u ≡ With n key → Had u → Had key → (n < u) × Infers s Had n (with_step s u key n)
+  infers_opened : {key : ℕ} → opening_of s u ≡ Some (With n key) → Had u → Had key → (n < u) × Infers s Had n (with_step s u key n)
   unfolding second_for has_one head_of
   infers_opened {key} o a b = go ((facts v).good u l).shape ((facts v).good u l).has ((facts v).good u l).fits
     where
       key_below : key < terms s
       key_below = (with_listed v l o).1
 
-      clash : {z : Opening} → opening_of s u ≡ z → z ≡ With n key
+      clash : {z : Maybe Opening} → opening_of s u ≡ z → z ≡ Some (With n key)
       clash e = sym e ∙ o
 
       go : (z : Shape) → shape_of (kind_at s u) ≡ some z → Shaped s u z → (n < u) × Infers s Had n (with_step s u key n)
-      go (atomic κ) e w = absurd (let z : Shut ≡ With n key = clash (ap (opening_in s) (shape_record s u (atomic κ) e)) in let d : ◌≡◌ {A = ℕ} 0 1 = cc in omega arith)
-      go (compound hash) e w = absurd (let z : Shut ≡ With n key = clash (ap (opening_in s) (shape_record s u (compound hash) e)) in let d : ◌≡◌ {A = ℕ} 0 1 = cc in omega arith)
+      go (atomic κ) e w = absurd (let z : None ≡ Some (With n key) = clash (ap (opening_in s) (shape_record s u (atomic κ) e)) in let d : ◌≡◌ {A = ℕ} 0 1 = cc in omega arith)
+      go (compound hash) e w = absurd (let z : None ≡ Some (With n key) = clash (ap (opening_in s) (shape_record s u (compound hash) e)) in let d : ◌≡◌ {A = ℕ} 0 1 = cc in omega arith)
       go (compound pair) e w =
-          absurd (let z : Freely (x_at s u) (y_at s u) ≡ With n key = clash (ap (opening_in s) (shape_record s u (compound pair) e)) in let d : ◌≡◌ {A = ℕ} 0 1 = cc in omega arith)
+          absurd (let z : Some (Freely (x_at s u) (y_at s u)) ≡ Some (With n key) = clash (ap (opening_in s) (shape_record s u (compound pair) e)) in let d : ◌≡◌ {A = ℕ} 0 1 = cc in omega arith)
       go (compound (encryption symmetric)) e (lx, (ly, _)) =
-          let z : With (x_at s u) (y_at s u) ≡ With n key = clash (ap (opening_in s) (shape_record s u (compound (encryption symmetric)) e)) in
+          let z : Some (With (x_at s u) (y_at s u)) ≡ Some (With n key) = clash (ap (opening_in s) (shape_record s u (compound (encryption symmetric)) e)) in
           let ex : x_at s u ≡ n = cc in
           let ey : y_at s u ≡ key = cc in
           let kind = shape_kind _ _ e in
@@ -164,10 +165,10 @@ module _ {s : List ℕ} (v : TableRead s) {Had : ℕ → Type 0} {u n : ℕ} (l 
             }),
           )
       go (compound (encryption asymmetric)) e (lx, (ly, _)) =
-          let ((d, ek), ex) = by_key (eqb (inverse_of s (y_at s u)) 255) refl (clash (ap (opening_in s) (shape_record s u (compound (encryption asymmetric)) e))) in
+          let (d, ex) = by_inverse (found_inverse s (y_at s u)) (x_at s u) (clash (ap (opening_in s) (shape_record s u (compound (encryption asymmetric)) e))) in
           let kind = shape_kind _ _ e in
           let other : eqb (kind_at s u) 5 ≡ false = ne_eqb (kind_at s u) 5 (λ z. let six : kind_at s u ≡ 6 = kind in omega arith) in
-          let inverse : are_inverse s (y_at s u) key ≡ true = rw ek at (the_inverse v {y = y_at s u} (omega arith) d).1 in (
+          let inverse : are_inverse s (y_at s u) key ≡ true = (the_inverse v {y = y_at s u} (omega arith) d).1 in (
             omega arith,
             rw other (record {
               fits = record_fits (facts v) 6 u key n (omega arith) l key_below k (kind, (ex, inverse));
@@ -176,14 +177,22 @@ module _ {s : List ℕ} (v : TableRead s) {Had : ℕ → Type 0} {u n : ℕ} (l 
               concludes = refl;
             }),
           )
-        where
-          by_key : (c : Bool) → eqb (inverse_of s (y_at s u)) 255 ≡ c → cond c Shut (With (x_at s u) (inverse_of s (y_at s u))) ≡ With n key →
-              ((inverse_of s (y_at s u) ≡ 255 → ⊥) × (inverse_of s (y_at s u) ≡ key)) × (x_at s u ≡ n)
-          by_key true f z = absurd (let d : ◌≡◌ {A = ℕ} 0 1 = cc in omega arith)
-          by_key false f z = ((eqb-false _ 255 f, cc), cc)
 
   pub infers : ComesFrom s Had u n → Infers s Had n (step_from s u n)
   unfolding step_from
   infers (from_parts x y e p a b) = rw (eq-eqb u n e) (infers_built p a b)
   infers (from_pair x y a o i) = let (d, w) = infers_part o i a in rw (ne_eqb u n (λ e. omega arith), o) w
   infers (from_key key a o b) = let (d, w) = infers_opened o a b in rw (ne_eqb u n (λ e. omega arith), o) w
+
+-- a term that comes from its own record is built
+pub built_compound : {s : List ℕ} {u n : ℕ} → TableRead s → StepFrom s u n → u ≡ n → is_some (builder_of (shape_of (kind_at s n))) ≡ true
+built_compound {s} {u} {n} v c e = go c.comes
+  where
+    by : (z : Shape) → shape_of (kind_at s n) ≡ some z → {x y : ℕ} → parts_of (record_at s n) ≡ Some (x, y) → is_some (builder_of (shape_of (kind_at s n))) ≡ true
+    by (atomic κ) f {x} {y} p = absurd (let z : ◌≡◌ {A = Maybe (ℕ × ℕ)} None (Some (x, y)) = sym (ap parts_of (shape_record s n (atomic κ) f)) ∙ p in let d : ◌≡◌ {A = ℕ} 0 1 = cc in omega arith)
+    by (compound k) f p = rw f
+
+    go : ComesFrom s (λ x. x < terms s) u n → is_some (builder_of (shape_of (kind_at s n))) ≡ true
+    go (from_parts x y _ p _ _) = by ((facts v).good n c.below).shape ((facts v).good n c.below).has p
+    go (from_pair x y a o i) = absurd (let (d, _) = infers_part v {Had = λ x. x < terms s} c.from c.below o i a in omega arith)
+    go (from_key key a o b) = absurd (let (d, _) = infers_opened v {Had = λ x. x < terms s} c.from c.below o a b in omega arith)

@@ -5,9 +5,10 @@
 #![tactic(auto)]
 
 ghost use Rattle.std.specs.Prelude.{◌≡◌, ◌<◌, ◌≤◌, length};
-ghost use Rattle.base.specs.Answer.{done, answer_of};
+ghost use Rattle.base.specs.Answer.{answer_of};
 ghost use Rattle.submission.specs.Record.{terms};
 ghost use Rattle.witness.specs.Calls.{DeductionWritten};
+ghost use Rattle.witness.specs.Code.{answer_shown};
 
 mod marked;
 
@@ -16,37 +17,38 @@ use deduction::Openings;
 use marked::Marked;
 use submission::Table;
 
-// 0 where term t is not deducible, and otherwise its deduction on the page, and 1 + the count of its steps.
-fn show(openings: &Openings, t: u8, page: &mut [u8]) -> u16
+// The deduction of term t on the page, and the count of its steps, where it is deducible.
+fn show(openings: &Openings, t: u8, page: &mut [u8]) -> Option<u16>
     requires t_bound { t < terms openings.now.table.bytes.now }
     requires in_bounds { 1000 ≤ length page.old }
-    ensures { DeductionWritten (λ a. done result ≡ a) openings.now.table.bytes.now t page.old page.new }
+    ensures { DeductionWritten (λ a. answer_shown result ≡ a) openings.now.table.bytes.now t page.old page.new }
 {
     let start = deduction::knowledge_marks(openings.table.bytes);
     let work = deduction::reach_all(openings, &start);
-    if work.marks[usize::from(t)] == 0 {
-        return 0;
+    let mark = work.marks[usize::from(t)];
+    if mark.is_none() {
+        return None;
     }
     let marked = Marked {
         openings,
         work: &work,
     };
-    marked.show(t, page)
+    Some(marked.show(t, page))
 }
 
 // Whether term t is deducible from the knowledge of the submission: 0 for no, which writes nothing, and for yes 1 + the count of the steps of a
 // derivation of it, which are then at the page's start; or the refusal of the first of checks 1 to 4, 12 and 19 that fails. A page that is not
 // refused has room for as many steps as there are terms.
+// A number, as `run` and the calls for C answer: one `encode` serves all.
 pub fn deduction(s: &[u8], t: u8, page: &mut [u8]) -> Result<u16, Refusal>
     ensures { DeductionWritten (λ a. answer_of result ≡ a) s.now t page.old page.new }
 {
     let table = Table::read(s)?;
-    if table.terms() <= t {
-        return Err(Fault::NoSuchTerm.at(0));
-    }
-    if page.len() < 1000 {
-        return Err(Fault::ShortSheet.at(1000));
-    }
+    table.check_term(t)?;
+    Fault::ShortSheet.at(1000).when(page.len() < 1000)?;
     let openings = Openings::of(table);
-    Ok(show(&openings, t, page))
+    let Some(count) = show(&openings, t, page) else {
+        return Ok(0);
+    };
+    Ok(1 + count)
 }

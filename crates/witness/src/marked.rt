@@ -1,15 +1,17 @@
 // A table whose terms are marked by how they were reached: the step that concludes each, and the steps that lead to one of them.
-ghost use Rattle.std.specs.Prelude.{◌≡◌, ◌<◌, ◌≤◌, length};
+ghost use Rattle.std.specs.Prelude.{◌≡◌, ◌<◌, ◌≤◌, length, suc, true, is_some};
+ghost use Rattle.term.specs.Number.{shape_of};
+ghost use Rattle.term.specs.Code.{builder_of};
 ghost use Rattle.base.specs.Words.{sets};
 ghost use Rattle.base.specs.Answer.{done};
-ghost use Rattle.submission.specs.Record.{terms};
-ghost use Rattle.deduction.specs.Code.{Reached};
+ghost use Rattle.submission.specs.Record.{terms, kind_at};
+ghost use Rattle.deduction.specs.Code.{mark_of, Reached};
 ghost use Rattle.deduction.specs.Saturation.{Holds, Queue};
 ghost use Rattle.witness.specs.Calls.{DeductionWritten};
-ghost use Rattle.witness.specs.Code.{built_step, opening_rule, part_step, with_step, step_from, concluding_step, HasStep, StartedOrHasStep, HaveSteps, ChosenOne, Chosen, FromKnowledge, steps_bytes};
+ghost use Rattle.witness.specs.Code.{built_step, opening_rule, part_step, with_step, StepFrom, step_from, step_by, StartedOrHasStep, HaveSteps, ChosenOne, Chosen, FromKnowledge, steps_bytes};
 
 use base::Writer;
-use deduction::{Opening, Openings, START_MARK, Worklist};
+use deduction::{Opening, Openings, Origin, Worklist};
 use derivation::Step;
 use submission::{Table, Term};
 use term::{Kind, rules};
@@ -25,26 +27,28 @@ impl<'a> Marked<'a> {
     // The step by which term n comes from record u: it is built, or taken from what opens u.
     #[tactic(auto, unfolding(crate::specs::Code::step_from))]
     fn step_from(self, u: u8, n: u8) -> Step
-        requires { u < terms self.openings.now.table.bytes.now }
+        requires { StepFrom self.openings.now.table.bytes.now u n }
         ensures { result ≡ step_from self.entry.openings.now.table.bytes.now u n }
     {
         if u == n {
             return built_step(self.openings.table, n);
         }
-        match self.openings.opening_of(u) {
+        match self.openings.opening_of(u).unwrap() {
             Opening::Freely { x, y: _ } => part_step(u, x, n),
             Opening::With { body: _, key } => with_step(self.openings.table, u, key, n),
-            Opening::Shut => with_step(self.openings.table, u, 0, n),
         }
     }
 
-    // The step that concludes term n, as its mark says.
-    fn concluding_step(self, n: u8) -> Step
-        requires { HasStep self.openings.now.table.bytes.now self.work.now.marks n }
-        ensures { result ≡ concluding_step self.entry.openings.now.table.bytes.now self.entry.work.now.marks n }
+    // The step that concludes term n, as its mark says: a term that is from the start has none.
+    fn concluding_step(self, n: u8) -> Option<Step>
+        requires { StartedOrHasStep self.openings.now.table.bytes.now self.work.now.marks n }
+        ensures { result ≡ step_by self.entry.openings.now.table.bytes.now n (mark_of self.entry.work.now.marks n) }
     {
         let mark = self.work.marks[usize::from(n)];
-        self.step_from(mark - 1, n)
+        let Some(Origin::Record(u)) = mark else {
+            return None;
+        };
+        Some(self.step_from(u, n))
     }
 
     // The terms whose steps lead to term t, which is reached: each comes after the premises of its step, and t is the last. A term that is from the
@@ -74,27 +78,28 @@ impl<'a> Marked<'a> {
     {
         let mut writer = Writer::new(page);
         for n in chosen {
-            let step = self.concluding_step(*n);
+            let step = self.concluding_step(*n).unwrap();
             writer.put_array([step.rule, step.p, step.q, step.conclusion]);
         }
     }
 
-    // The deduction of term t, which is reached, on the page, and 1 + the count of its steps.
+    // The deduction of term t, which is reached, on the page, and the count of its steps.
     pub(crate) fn show(self, t: u8, page: &mut [u8]) -> u16
         requires from_knowledge { Holds (FromKnowledge self.openings.now.table.bytes.now) self.work.now }
         requires t_bound { t < terms self.openings.now.table.bytes.now }
         requires reached { Reached self.work.now.marks t }
         requires in_bounds { 1000 ≤ length page.old }
-        ensures { DeductionWritten (λ a. done result ≡ a) self.entry.openings.now.table.bytes.now t page.old page.new }
+        ensures { DeductionWritten (λ a. done (suc result) ≡ a) self.entry.openings.now.table.bytes.now t page.old page.new }
     {
         let choice = self.choose(t);
         let chosen = &choice.chosen[choice.from..];
         self.put_steps(chosen, page);
-        1 + chosen.len() as u16
+        u16::try_from(chosen.len()).unwrap()
     }
 }
 
-// The terms chosen so far stand in `chosen` from `from` on, and what is needed to conclude them is noted.
+// The terms chosen so far stand in `chosen` from `from` on, and what is needed to conclude them is noted. An array and a place, since the project
+// uses no heap: it is memory of a fixed size.
 #[derive(Drop)]
 struct Choice {
     pub needed: [bool; 256],
@@ -111,11 +116,12 @@ impl Choice {
         requires from_bound { self.old.from ≤ 256 }
         ensures { ChosenOne marked.entry.openings.now.table.bytes.now marked.entry.work.now.marks n self.old self.new }
     {
-        let i = usize::from(n);
-        if !self.needed[i] || marked.work.marks[i] == START_MARK {
+        if !self.needed[usize::from(n)] {
             return;
         }
-        let step = marked.concluding_step(n);
+        let Some(step) = marked.concluding_step(n) else {
+            return;
+        };
         self.needed[usize::from(step.p)] = true;
         self.needed[usize::from(step.second())] = true;
         self.from -= 1;
@@ -125,11 +131,12 @@ impl Choice {
 
 // The step that builds term n of its parts.
 fn built_step(table: Table, n: u8) -> Step
+    requires { is_some (builder_of (shape_of (kind_at table.bytes.now n))) ≡ true }
     ensures { result ≡ built_step table.entry.bytes.now n }
 {
     let term = table.term(n);
     Step {
-        rule: term.rule().unwrap_or(rules::RULES),
+        rule: term.rule().unwrap(),
         p: term.x,
         q: term.y,
         conclusion: n,

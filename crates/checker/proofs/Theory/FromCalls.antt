@@ -9,9 +9,9 @@ use lib.ListN.{length, take, drop}
 use lib.Seq.{take-append_seam, drop-append_seam, take_at, drop_at, get_or-take}
 use Rattle.std.specs.Prelude.{Result, Ok, Err}
 use Rattle.base.specs.declared.refusal.Refusal.{Refusal}
-use Rattle.base.specs.Answer.{Answer, done, refused, page_after, Writes, Clear, Refuses, answer_of, numbered, row11}
+use Rattle.base.specs.Answer.{Answer, done, refused, page_after, Writes, Clear, Refuses, number_of, answer_of, numbered, row11}
 use Rattle.base.specs.Words.{byte, Bytes}
-use Rattle.base.proofs.AnswerLaws.{refused_page}
+use Rattle.base.proofs.{AnswerLaws.refused_page, AnswerLaws.refused_not_done, OneToOne.answer_of_one_to_one}
 use Rattle.base.proofs.Says.{true_or_false, denies}
 use Rattle.base.proofs.RefusalLaws.{SomeHolds, refuses_some, Numbers, some_number, both_numbers, clear_split}
 use Rattle.term.specs.{Term.asymmetric, Term.Match, Term.Stale, Step.Deducible}
@@ -67,6 +67,19 @@ returned r n c = (λ e. sym c ∙ ap answer_of e, λ e. same_value r n (c ∙ e)
 -- and it refuses with n and p exactly when the answer does
 refuses : (r : Result ℕ Refusal) (n p : ℕ) {a : Answer} → answer_of r ≡ a → (answer_of r ≡ refused n p) ↔ (a ≡ refused n p)
 refuses r n p c = (λ e. sym c ∙ e, λ e. c ∙ e)
+
+-- and then it returned one refusal, whose fault has the number n and whose place is p, and no other refusal has these
+pub refused_with : (r : Result ℕ Refusal) (n p : ℕ) →
+    (answer_of r ≡ refused n p) ↔ ((x : Refusal) × (r ≡ Err x) × (number_of x.fault ≡ n) × (x.place ≡ p) × ((y : Refusal) → number_of y.fault ≡ n → y.place ≡ p → Err y ≡ r))
+refused_with r n p = (there r, λ (x, e, f, g, _). rw (e, f, g))
+  where
+    there : (r : Result ℕ Refusal) → answer_of r ≡ refused n p →
+        (x : Refusal) × (r ≡ Err x) × (number_of x.fault ≡ n) × (x.place ≡ p) × ((y : Refusal) → number_of y.fault ≡ n → y.place ≡ p → Err y ≡ r)
+    there (Ok m) e = refused_not_done (sym e)
+    there (Err x) e =
+        let f : number_of x.fault ≡ n = cc in
+        let g : x.place ≡ p = cc in
+        (x, refl, f, g, λ y h i. answer_of_one_to_one (Err y) (Err x) (rw (h, i) (sym e)))
 
 -- where a call that writes a page was done, the bytes written are the first ones of the page, and the others are as before
 stands : {Says : Answer → Type 0} {a : Answer} {bytes page page' : List ℕ} {n : ℕ} → Writes Says a bytes page page' → a ≡ done n → n ≡ length bytes →

@@ -2,9 +2,10 @@
 use mathlib.Core.Path.{◌≡◌, refl, sym, ◌∙◌}
 use mathlib.Core.Logic.Iff
 use mathlib.Core.Logic.{◌↔◌, ◌⊎◌, inl, inr, ⊎_elim}
-use mathlib.Core.Bool.{true, true≢false}
+use mathlib.Core.Bool.{true, false, true≢false}
 use mathlib.Core.List.{List}
-use Prim.Native.Nat.{ℕ, ◌<◌}
+use Prim.Native.Nat.{ℕ, ◌≤◌, ◌<◌}
+use Rattle.std.specs.Prelude.{Option, Some, None, unwrap_or}
 use native.Mathlib.Omega.{arith}
 use lib.ListN.{length}
 use Rattle.base.specs.{Words.byte, Words.Bytes, Answer.Answer, Answer.Clear, Answer.Answers, Computed.check_room}
@@ -12,8 +13,8 @@ use Rattle.base.proofs.{Grow.length_listed, Grow.listed_at, RefusalLaws.answers_
 use Rattle.term.specs.Term.{asymmetric, Match}
 use Rattle.submission.specs.{Record.terms, Record.term, Check.rows1to4, Computed.are_inverse, Computed.checks1to4}
 use Rattle.submission.proofs.Theory.{ReadingRows.tells_1_to_4, ListedTerms.Listed, ListedTerms.listed}
-use Rattle.inverse.specs.{Inverse.inverses_rows, Inverse.InverseListed, Inverse.InversesPromise, Computed.inverse_of, Computed.inverses_of, Computed.inverses_answer, Code.InverseAmong}
-use Rattle.inverse.proofs.Theory.InverseKeys.{inverse_sym, inverse_one, all_among}
+use Rattle.inverse.specs.{Inverse.inverses_rows, Inverse.InverseListed, Inverse.InversesPromise, Computed.inverse_of, Computed.inverses_of, Computed.inverses_answer, Code.InverseAmong, Code.found_inverse}
+use Rattle.inverse.proofs.Theory.InverseKeys.{inverse_sym, inverse_one, all_among, page_byte}
 
 -- The call refuses with n at p exactly when row n holds at p and no row holds that the order puts before it; else it is done with the count of
 -- terms.
@@ -32,9 +33,18 @@ length_is : (s : List ℕ) → length (inverses_of s) ≡ terms s
 unfolding inverses_of
 length_is s = length_listed (inverse_of s) (terms s)
 
+-- the byte b is the number of the inverse, or 255 for none
+record ByteFound (s : List ℕ) (n b : ℕ) : Type 0 where
+  is : (b ≡ 255) ⊎ ((b < terms s) × (are_inverse s n b ≡ true))
+  none : b ≡ 255 → (j : ℕ) → j < terms s → are_inverse s n j ≡ false
+
+byte_found : (s : List ℕ) (n : ℕ) (o : Option ℕ) → terms s ≤ 255 → InverseAmong s n (terms s) o → ByteFound s n (unwrap_or o 255)
+byte_found s n None b f = record { is = inl refl; none = λ _. f }
+byte_found s n (Some j) b (l, t) = record { is = inr (l, t); none = λ e. absurd (omega arith) }
+
 module _ (s : List ℕ) (z : Listed s) (n : ℕ) (l : n < terms s) where
-  found : InverseAmong s n (terms s) (byte (inverses_of s) n)
-  found = rw (byte_is s n l) (all_among s n (omega (arith, z.terms_most)))
+  found : ByteFound s n (byte (inverses_of s) n)
+  found = rw (byte_is s n l, ← page_byte s n) (byte_found s n (found_inverse s n) (omega (arith, z.terms_most)) (all_among s n))
 
   byte_one : (byte (inverses_of s) n ≡ 255) ⊎ (byte (inverses_of s) n < terms s)
   byte_one = ⊎_elim inl (λ x. inr x.0) found.is

@@ -14,7 +14,6 @@ use Rattle.term.proofs.Reduce.{says_test}
 use Rattle.term.proofs.Table.{decode_inj}
 use Rattle.machine.specs.declared.Node.{Node}
 use Rattle.machine.specs.declared.Machine.{Machine}
-use Rattle.std.specs.Prelude.{Some}
 use Rattle.term.specs.declared.kind.Kind.{Kind as KindRead}
 use Rattle.term.specs.declared.kind.Kind.TheVariants.{Plain, Public, Private, Pair, Enc, Enca, Hash}
 use Rattle.term.specs.Code.{are_inverse_kinds}
@@ -32,7 +31,7 @@ decided {b = b} d w = same_test b (ite d true false) w (says_test d)
 abbrev Opposite : {K : Type 0} → K → K → K → K → Type 0
 Opposite p q x y = ((x ≡ p) × (y ≡ q)) ⊎ ((x ≡ q) × (y ≡ p))
 
-opposite_kinds : (k j : KindRead) → are_inverse_kinds k (Some j) ≡ true → Opposite Public Private k j
+opposite_kinds : (k j : KindRead) → are_inverse_kinds k j ≡ true → Opposite Public Private k j
 opposite_kinds Plain j e = absurd (false≢true e)
 opposite_kinds Pair j e = absurd (false≢true e)
 opposite_kinds Enc j e = absurd (false≢true e)

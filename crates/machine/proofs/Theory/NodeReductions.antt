@@ -3,7 +3,7 @@ use mathlib.Core.Path.{◌≡◌, refl, sym, ap, ap₂, ◌∙◌, subst}
 use mathlib.Core.Bool.{Bool, true, false, ◌&&◌, false≢true}
 use mathlib.Core.List.{[], ◌∷◌}
 use mathlib.Core.Logic.Dec
-use mathlib.Core.Logic.{if_pos, if_neg}
+use mathlib.Core.Logic.{if_neg}
 use Prim.Native.Nat.{ℕ, ◌+◌, ◌<◌}
 use native.Mathlib.Omega.{arith}
 use Rattle.base.proofs.Says.{Says, says_true, says_eqb, says_and, denies}
@@ -14,7 +14,7 @@ use Rattle.term.specs.Computed.{match?}
 use Rattle.term.specs.Reduce.{cancelled, paired, parted, op}
 use Rattle.term.specs.Term.{pick, Rec, leaf, branch, message}
 use Rattle.term.specs.Number.{rules, head_of}
-use Rattle.term.proofs.Reduce.{says_test}
+use Rattle.term.proofs.Reduce.{says_test, cancelled_reduced, parted_reduced, paired_reduced}
 use Rattle.term.proofs.Numbered.{same_below, Arms, choice}
 use Rattle.term.proofs.Rule.{rule_head}
 use Rattle.term.proofs.Table.{decode_inj}
@@ -120,10 +120,6 @@ cancel_none c inner outer (atom κ n) b f = refl
 cancel_none c inner outer (node h x k) b f =
     if_neg (Dec.and (head? h inner) (match? c k b)) (λ u. f x k (ap (λ z. node z x k) u.0) u.1) x (node outer (node h x k) b)
 
-cancel_some : (c : Cipher) (inner outer : Head) (x k b : Term) → Match c k b → cancelled c inner outer (node inner x k) b ≡ x
-unfolding cancelled
-cancel_some c inner outer x k b u = if_pos (Dec.and (head? inner inner) (match? c k b)) (refl, u) x (node outer (node inner x k) b)
-
 -- the head h cancels the head g
 module _ (c : Cipher) (g h : Head) (steps : (a b : Term) → op h a b ≡ cancelled c g h a b) where
   cancel_reduct : {m : Machine} {a b : ℕ} {x k y : Node} {r : Maybe ℕ} → Ready m a b → x ≡ node_in m a → k ≡ node_in m x.right → y ≡ node_in m b →
@@ -138,7 +134,7 @@ module _ (c : Cipher) (g h : Head) (steps : (a b : Term) → op h a b ≡ cancel
           let (u, v) = (says_and _ _ (says_word x.head (rule_of g)) (says_true (match_nodes c x.right b k y))).0 t in (
             left_below g w.sound w.left e u,
             steps _ _ ∙ ap (λ t. cancelled c g h t (term_at m b)) (term_is g w.sound w.left e u)
-                ∙ cancel_some c g h _ _ _ ((says_test (match? c _ _)).0 (sym (match_is u) ∙ v)),
+                ∙ cancelled_reduced c g h _ _ _ ((says_test (match? c _ _)).0 (sym (match_is u) ∙ v)),
           )
 
       other : (is_word x.head (rule_of g) && match_nodes c x.right b k y) ≡ false → op h (term_at m a) (term_at m b) ≡ node h (term_at m a) (term_at m b)
@@ -157,11 +153,6 @@ pair_none (node h x p) (node h' y q) f =
     if_neg (Dec.and (head? h (part left)) (Dec.and (head? h' (part right)) (term? y x)))
     (λ u. f x p q (ap (λ z. node z x p) u.0) (ap₂ (λ z v. node z v q) u.1.0 u.1.1)) x (node (make pair) (node h x p) (node h' y q))
 
-pair_some : (x p q : Term) → paired (node (part left) x p) (node (part right) x q) ≡ x
-unfolding paired
-pair_some x p q =
-    if_pos (Dec.and (head? (part left) (part left)) (Dec.and (head? (part right) (part right)) (term? x x))) (refl, (refl, refl)) x _
-
 says_parts : (x y : Node) → Says (parts_of_one x y) ((x.head ≡ Word (rule_of (part left))) × ((y.head ≡ Word (rule_of (part right))) × (x.left ≡ y.left)))
 unfolding parts_of_one
 says_parts x y = says_and _ _ (says_word _ _) (says_and _ _ (says_word _ _) (says_eqb _ _))
@@ -175,7 +166,7 @@ pair_reduct {m} {a} {b} {x} {y} w e g q = rw q (when_reduct _ _ here other)
         let u = (says_parts x y).0 t in (
           left_below (part left) w.sound w.left e u.0,
           ap₂ paired (term_is (part left) w.sound w.left e u.0) (term_is (part right) w.sound w.right g u.1.0
-              ∙ ap (λ z. node (part right) (term_at m z) (term_at m y.right)) (sym u.1.1)) ∙ pair_some _ _ _,
+              ∙ ap (λ z. node (part right) (term_at m z) (term_at m y.right)) (sym u.1.1)) ∙ paired_reduced _ _ _,
         )
 
     other : parts_of_one x y ≡ false → paired (term_at m a) (term_at m b) ≡ node (make pair) (term_at m a) (term_at m b)
@@ -196,10 +187,6 @@ unfolding parted
 part_none s (atom κ n) b f = refl
 part_none s (node h x y) b f = if_neg (head? h (make pair)) (λ u. f x y (ap (λ z. node z x y) u)) _ _
 
-part_some : (s : Side) (x y b : Term) → parted s (node (make pair) x y) b ≡ pick s x y
-unfolding parted
-part_some s x y b = refl
-
 picked : (T : ℕ → Term) (s : Side) (x y : ℕ) → pick s (T x) (T y) ≡ T (pick s x y)
 picked T left x y = refl
 picked T right x y = refl
@@ -217,7 +204,7 @@ part_reduct {m} {a} {b} {x} s w e q = rw q (when_reduct _ _ here other)
         (pick s x.left x.right < m.nodes.used) × (parted s (term_at m a) (term_at m b) ≡ term_at m (pick s x.left x.right))
     here t =
         let h = (says_word x.head (rule_of (make pair))).0 t in
-        (below s h, ap (λ z. parted s z (term_at m b)) (term_is (make pair) w.sound w.left e h) ∙ part_some s _ _ _ ∙ picked (term_at m) s _ _)
+        (below s h, ap (λ z. parted s z (term_at m b)) (term_is (make pair) w.sound w.left e h) ∙ parted_reduced s _ _ _ ∙ picked (term_at m) s _ _)
 
     other : is_word x.head (rule_of (make pair)) ≡ false → parted s (term_at m a) (term_at m b) ≡ node (part s) (term_at m a) (term_at m b)
     other t = part_none s _ _ (λ y z f. (denies _ (says_word x.head (rule_of (make pair)))).0 t (read_node w.sound w.left e f).0)

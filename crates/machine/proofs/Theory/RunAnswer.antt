@@ -1,7 +1,7 @@
 -- A run: the test of a program that passes check 13, and the answer.
 use mathlib.Core.Logic.{◌↔◌}
 use mathlib.Core.Path.{◌≡◌, refl, sym, ap, ap₂, ◌∙◌}
-use mathlib.Core.Bool.{Bool, true, false, cond}
+use mathlib.Core.Bool.{Bool, false, cond}
 use mathlib.Core.Option.{some}
 use mathlib.Core.List.{List}
 use Prim.Native.Nat.{ℕ, ◌<◌}
@@ -11,6 +11,7 @@ use Rattle.std.specs.Prelude.{Result, Ok, Err}
 use Rattle.base.specs.declared.refusal.Refusal.{Refusal}
 use Rattle.base.specs.Answer.{Answer as Given, done, refused, number_of, Answers}
 use Rattle.base.proofs.Says.{Says, says_eqb, says_and, says_not, refutes}
+use Rattle.base.proofs.AnswerLaws.{if_passes}
 use Rattle.base.proofs.RefusalLaws.{Tells, tells_if, tells_then, answers_iff}
 use Rattle.submission.specs.Record.{guess, name_at, guessed}
 use Rattle.submission.proofs.Theory.{ReadingRows.tells_1_to_5, StaleTests.says_stale}
@@ -83,11 +84,19 @@ module _ (s P : List ℕ) (name : ℕ) {T : Type 0} {r : Result T Refusal} (e : 
 
 -- ---- check 15
 module _ (s P : List ℕ) (name : ℕ) {v : Node} (q : v ≡ guess_node s name) {b : Bool} (i : b ≡ is_stale_name s v.left) where
-  pub named : is_stale_name s name ≡ b
+  named : is_stale_name s name ≡ b
   named = sym (i ∙ ap (λ z. is_stale_name s z.left) q)
 
-  pub tried_stale : b ≡ true → refused 15 0 ≡ answered (fails_if (is_stale_name s name) 15 0) (done (signal s name P))
-  tried_stale j = rw (named, j)
+  -- of its result
+  module _ {T : Type 0} (r : Result T Refusal) {n p : ℕ} (c : n ≡ 15) (d : p ≡ 0) (e : check_of r ≡ fails_if b n p) where
+    answers : check_of r ≡ fails_if (is_stale_name s name) 15 0
+    answers = e ∙ rw (c, d, named)
+
+    pub tried_stale : (a : Given) {x : Refusal} → r ≡ Err x → a ≡ refused (number_of x.fault) x.place → a ≡ answered (fails_if (is_stale_name s name) 15 0) (done (signal s name P))
+    tried_stale a h f = f ∙ rw (← answers, h)
+
+    pub tried_fresh : {u : T} → r ≡ Ok u → is_stale_name s name ≡ false
+    tried_fresh h = (if_passes (is_stale_name s name) 15 0).0 (sym answers ∙ ap check_of h)
 
 -- ---- Demand 1, run
 pub says_stale_name : (s : List ℕ) (name : ℕ) → Says (is_stale_name s name) (StaleName s name)

@@ -11,7 +11,7 @@ use Rattle.term.specs.Term.{Kind, plain, public, private, other_kind, atom, leaf
 use Rattle.term.proofs.Table.{leaf_of}
 use Rattle.submission.specs.Record.{terms, guess, name_at, record_at, term, guessed}
 use Rattle.submission.specs.Code.{SubmissionRead, KnownPart}
-use Rattle.submission.proofs.{PassedChecks.body_passes, Theory.StaleTests.listed_part}
+use Rattle.submission.proofs.{PassedChecks.table_passed, Theory.StaleTests.listed_part}
 use Rattle.submission.specs.Code.{TableRead}
 use Rattle.machine.specs.declared.Node.{Node}
 use Rattle.std.specs.Prelude.{Option as Maybe, Some, None}
@@ -36,7 +36,7 @@ module _ {s : List ℕ} {ns : List Node} (w : SubmissionRead s) (z : TermNodes s
 
   module _ {n : ℕ} (c : n ≡ terms s) where
     at_term : (k : ℕ) → Finds ns (atom_node κ name) 0 n (Some k) → (k < terms s) × (term s k ≡ atom κ name)
-    at_term k (l, f) = let b : k < terms s = omega arith in (b, (says_node k b).0 f)
+    at_term k (_, l, f, _) = let b : k < terms s = omega arith in (b, (says_node k b).0 f)
 
     at_none : Finds ns (atom_node κ name) 0 n None → (k : ℕ) → k < terms s → term s k ≡ atom κ name → ⊥
     at_none h k b f = h k (omega arith) (omega arith) ((says_node k b).1 f)
@@ -59,7 +59,7 @@ inverse_atom private name = refl
 
 -- ---- the returns of `is_stale`
 pub table_read : {s : List ℕ} → SubmissionRead s → TableRead s
-table_read {s} w = record { bytes = w.bytes; passed = body_passes s w.passed }
+table_read {s} w = table_passed s w.bytes w.passed
 
 pub terms_fit : {s : List ℕ} {n : ℕ} → SubmissionRead s → n ≡ terms s → n ≤ 384
 terms_fit w e = omega (arith, (facts w).read.terms_most)

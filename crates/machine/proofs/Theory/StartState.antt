@@ -1,6 +1,6 @@
 -- The start of a run: the submission's terms as nodes, the knowledge and the guess in the first registers.
 use mathlib.Core.Path.{◌≡◌, refl, sym, ap, ap₂, ◌∙◌, subst}
-use mathlib.Core.Bool.{Bool, true, false, cond, true≢false, false≢true}
+use mathlib.Core.Bool.{true, cond, false≢true}
 use mathlib.Core.List.{List, [], ◌∷◌, ◌++◌}
 use mathlib.Core.Option.{some}
 use Prim.Native.Nat.{ℕ, ◌+◌, ◌*◌, ◌<◌}
@@ -8,24 +8,21 @@ use native.Mathlib.Omega.{arith}
 use lib.ListN.{length, get_or, length-set}
 use Rattle.base.specs.Words.{grow, listed}
 use Rattle.base.proofs.Grow.{grow_alike}
-use Rattle.term.specs.Term.{Kind, atomic, atom_kind, atom, leaf, message, void, decoded}
+use Rattle.term.specs.Term.{Kind, atom_kind, atom, leaf, message, void, decoded}
 use Rattle.term.specs.{Number.shape_of}
-use Rattle.std.specs.Option.{unwrap_or}
-use Rattle.term.specs.Number.{rules}
-use Rattle.term.specs.Code.{kind_is, shape_read, is_unary, builder_of, rule_is, Table}
+use Rattle.term.specs.Code.{kind_is, is_unary, builder_of, Table}
 use Rattle.submission.specs.declared.Term.{Term as TermRead}
-use Rattle.submission.specs.Record.{terms, entries, entry_at, guess, kind_at, x_at, y_at, name_at, record_of, record_at, term, guessed}
+use Rattle.submission.specs.Record.{terms, entries, entry_at, guess, kind_at, record_of, record_at, term, guessed}
 use Rattle.submission.specs.Code.{IsTerm, SubmissionRead}
 use Rattle.submission.proofs.Theory.ListedTerms.{Claimed, claimed}
 use Rattle.machine.specs.declared.Node.{Node}
 use Rattle.std.specs.Prelude.{Option as Maybe, Some, None}
-use Rattle.std.specs.Option.{unwrap_or}
 use Rattle.machine.specs.Run.{initial, registers}
 use Rattle.machine.specs.declared.Machine.{Machine}
 use Rattle.term.specs.declared.kind.Kind.{Kind as KindRead}
 use Rattle.term.specs.declared.kind.Kind.TheVariants.{Plain, Public, Private, Pair, Enc, Enca, Hash}
 use Rattle.machine.specs.declared.Head.TheVariants.{Atom, Word}
-use Rattle.machine.specs.Code.{kind_for, atom_head, record_for, node_for, node_of, Finds, Placed, Loaded, TermNodes, Started, guess_node}
+use Rattle.machine.specs.Code.{kind_for, atom_head, record_for, node_for, node_of, Finds, Placed, Loaded, Started, guess_node}
 use Rattle.machine.proofs.Theory.StateMeaning.{node_at, term_at, register, values, SoundState, HasTerms, Running}
 use Rattle.machine.proofs.Theory.NodeRecords.{atom_record, term_record}
 use Rattle.machine.proofs.Theory.StateGrowth.{decoded_alike, nodes_stay, Fit}
@@ -37,42 +34,25 @@ pub facts : {s : List ℕ} → SubmissionRead s → Claimed s
 facts {s} w = claimed s w.bytes w.passed
 
 -- ---- the node of a record
--- a term read from the submission's table is the submission's
-pub same_term : {s s' : List ℕ} {i : ℕ} {t : TermRead} → s' ≡ s → IsTerm s' i t → IsTerm s i t
-same_term e f = rw (← e) f
-
-rule_or : (o : Maybe ℕ) → unwrap_or o rules ≡ rule_is o
-rule_or None = refl
-rule_or (Some n) = refl
-
 -- the node of an atom, and that of a compound term, by the kind
-at_atom : (k : KindRead) → is_atomic (some (kind_is k)) ≡ true → (n x y : ℕ) → record { head = Atom k; left = n; right = 0 } ≡ node_for (record_of (some (kind_is k)) n x y)
+at_atom : (k : KindRead) → builder_of (some (kind_is k)) ≡ None → (n x y : ℕ) → record { head = Atom k; left = n; right = 0 } ≡ node_for (record_of (some (kind_is k)) n x y)
 at_atom Plain e n x y = refl
 at_atom Public e n x y = refl
 at_atom Private e n x y = refl
-at_atom Pair e n x y = absurd (false≢true e)
-at_atom Enc e n x y = absurd (false≢true e)
-at_atom Enca e n x y = absurd (false≢true e)
-at_atom Hash e n x y = absurd (false≢true e)
+at_atom Pair e n x y = cc
+at_atom Enc e n x y = cc
+at_atom Enca e n x y = cc
+at_atom Hash e n x y = cc
 
-at_word : (k : KindRead) → is_atomic (some (kind_is k)) ≡ false → (n x y : ℕ) →
-    record { head = Word (builder_of (some (kind_is k))); left = x; right = cond (is_unary (some (kind_is k))) x y } ≡ node_for (record_of (some (kind_is k)) n x y)
-at_word Plain e n x y = absurd (true≢false e)
-at_word Public e n x y = absurd (true≢false e)
-at_word Private e n x y = absurd (true≢false e)
-at_word Pair e n x y = refl
-at_word Enc e n x y = refl
-at_word Enca e n x y = refl
-at_word Hash e n x y = refl
-
--- what is of no kind stands for a plain atom
-record_or : (o : Maybe KindRead) (n x y : ℕ) → record_of (shape_read o) n x y ≡ record_of (some (kind_is (unwrap_or o Plain))) n x y
-record_or None n x y = refl
-record_or (Some k) n x y = refl
-
-unary_or : (o : Maybe KindRead) → is_unary (shape_read o) ≡ is_unary (some (kind_is (unwrap_or o Plain)))
-unary_or None = refl
-unary_or (Some k) = refl
+at_word : (k : KindRead) {h : ℕ} → builder_of (some (kind_is k)) ≡ Some h → (n x y : ℕ) →
+    record { head = Word h; left = x; right = cond (is_unary (some (kind_is k))) x y } ≡ node_for (record_of (some (kind_is k)) n x y)
+at_word Plain e n x y = cc
+at_word Public e n x y = cc
+at_word Private e n x y = cc
+at_word Pair {h} e n x y = let d : h ≡ 0 = cc in rw d
+at_word Enc {h} e n x y = let d : h ≡ 3 = cc in rw d
+at_word Enca {h} e n x y = let d : h ≡ 5 = cc in rw d
+at_word Hash {h} e n x y = let d : h ≡ 7 = cc in rw d
 
 atom_for : (k : KindRead) → is_atomic (some (kind_is k)) ≡ true → k ≡ kind_for (atom_kind (some (kind_is k)))
 atom_for Plain e = refl
@@ -83,24 +63,17 @@ atom_for Enc e = absurd (false≢true e)
 atom_for Enca e = absurd (false≢true e)
 atom_for Hash e = absurd (false≢true e)
 
-atom_or : (o : Maybe KindRead) (κ : Kind) → shape_read o ≡ some (atomic κ) → unwrap_or o Plain ≡ kind_for κ
-atom_or None κ e = absurd (let z : ◌≡◌ {A = ℕ} 0 1 = cc in omega arith)
-atom_or (Some k) κ e = atom_for k (ap is_atomic e) ∙ ap (λ o. kind_for (atom_kind o)) e
-
-module _ {s : List ℕ} {t : ℕ} {z : TermRead} (e : IsTerm s t z) (o : Maybe KindRead) (a : shape_read o ≡ shape_of z.kind) {k : KindRead} (c : k ≡ unwrap_or o Plain) where
+module _ {s r : List ℕ} {t : ℕ} {z : TermRead} (k : KindRead) (e : r ≡ s) (i : IsTerm r t z) (d : shape_of (kind_at r t) ≡ some (kind_is k)) where
   read_is : record_at s t ≡ record_of (some (kind_is k)) (z.x * 256 + z.y) z.x z.y
   unfolding record_at
-  read_is = rw (e.x, e.y, c, ← (record_or o (name_at s t) (x_at s t) (y_at s t)), a, e.kind)
+  read_is = rw (← e, d, i.x, i.y)
 
-  module _ {b : Bool} (d : b ≡ is_atomic (some (kind_is k))) where
-    pub node_atomic : b ≡ true → {v : Node} {n : ℕ} → n ≡ z.x * 256 + z.y → v ≡ record { head = Atom k; left = n; right = 0 } → v ≡ node_for (record_at s t)
-    node_atomic h f g = g ∙ rw (read_is, f) (at_atom k (sym d ∙ h) _ _ _)
+  module _ {o : Maybe ℕ} (f : o ≡ builder_of (some (kind_is k))) where
+    pub node_atomic : o ≡ None → {v : Node} {n : ℕ} → n ≡ z.x * 256 + z.y → v ≡ record { head = Atom k; left = n; right = 0 } → v ≡ node_for (record_at s t)
+    node_atomic h g q = q ∙ rw (read_is, g) (at_atom k (sym f ∙ h) _ _ _)
 
-    pub node_compound : b ≡ false → {x v y h : ℕ} (q : Maybe ℕ) → x ≡ z.x → v ≡ cond (is_unary (shape_of z.kind)) z.x z.y → rule_is q ≡ builder_of (some (kind_is k)) → h ≡ unwrap_or q rules → y ≡ v →
-        record { head = Word h; left = x; right = y } ≡ node_for (record_at s t)
-    node_compound n q f g j m i =
-        let second : is_unary (shape_of z.kind) ≡ is_unary (some (kind_is k)) = ap is_unary (sym a) ∙ unary_or o ∙ ap (λ k. is_unary (some (kind_is k))) (sym c) in
-        rw (read_is, i, g, f, second, m, rule_or q, j) (at_word k (sym d ∙ n) _ _ _)
+    pub node_compound : {h x y v : ℕ} → o ≡ Some h → x ≡ z.x → v ≡ cond (is_unary (shape_of z.kind)) z.x z.y → y ≡ v → record { head = Word h; left = x; right = y } ≡ node_for (record_at s t)
+    node_compound j g q m = rw (read_is, g, m, q, i.kind, d) (at_word k (sym f ∙ j) _ _ _)
 
 -- ---- the terms
 -- the first t nodes are the first t terms'
@@ -115,12 +88,14 @@ pub record EntriesPut (s regs : List ℕ) (i : ℕ) : Type 0 where
   pub is : (k : ℕ) → k < i → get_or regs k 0 ≡ entry_at s k
 
 -- ---- the guess
-pub guess_node_lem : {s : List ℕ} {g : ℕ} {z : TermRead} → SubmissionRead s → IsTerm s g z → g ≡ guess s → (o : Maybe KindRead) → shape_read o ≡ shape_of z.kind → {k : KindRead} → k ≡ unwrap_or o Plain →
-    {v : Node} (name : ℕ) → v ≡ record { head = Atom k; left = name; right = 0 } → v ≡ guess_node s name
-guess_node_lem {s} w e f o a {k} c {v} name i =
-    let shape = (facts w).guess_shape in
-    let q : k ≡ kind_for (facts w).guess_kind = c ∙ atom_or o _ (a ∙ ap shape_of (e.kind ∙ ap (kind_at s) f) ∙ shape) in
-    i ∙ rw (q, shape)
+module _ {s t : List ℕ} (w : SubmissionRead s) (e : t ≡ s) {g : ℕ} (f : g ≡ guess s) where
+  pub guess_listed : g < terms t
+  guess_listed = rw (e, f) (facts w).guess_below
+
+  pub guess_made : {k : KindRead} → shape_of (kind_at t g) ≡ some (kind_is k) → {v : Node} (name : ℕ) → v ≡ record { head = Atom k; left = name; right = 0 } → v ≡ guess_node s name
+  guess_made {k} h name i =
+      let shape : shape_of (kind_at s (guess s)) ≡ some (kind_is k) = rw (e, f) at h in
+      i ∙ rw (shape, ← (atom_for k (ap is_atomic (sym shape ∙ (facts w).guess_shape))))
 
 -- the node of the atom of a kind with a name, and that of the guess
 abbrev pub atom_node : Kind → ℕ → Node
@@ -198,15 +173,12 @@ module _ {s : List ℕ} {v : Node} {o : Maybe ℕ} {r : Machine} (z : Started s 
   pub start_long : length r.registers ≡ 256
   start_long = rw z.placed.is (simp length-set z.loaded.registers)
 
-  pub start_nodes : TermNodes s r.nodes.items
-  start_nodes = start_terms.nodes
-
   -- a search does not see what is put after the nodes that it looks at
   pub start_found : Finds r.nodes.items v 0 (terms s) o
   start_found = rw z.placed.is (go _ _ o z.is (λ k l. nodes_stay z.before.nodes v o k (omega (arith, z.loaded.many))))
     where
       go : (ns ms : List Node) (o : Maybe ℕ) → Finds ns v 0 (terms s) o → ((k : ℕ) → k < terms s → node_of ms k ≡ node_of ns k) → Finds ms v 0 (terms s) o
-      go ns ms (Some i) (l, f) e = (l, e i l ∙ f)
+      go ns ms (Some i) (a, l, f, d) e = (a, l, e i l ∙ f, λ k x y q. let b : k < terms s = omega arith in d k x y (sym (e k b) ∙ q))
       go ns ms None f e = λ k a l q. f k a l (sym (e k l) ∙ q)
 
 -- the guess's node has the name

@@ -2,7 +2,7 @@
 use mathlib.Core.Path.{◌≡◌, refl, sym, ap, ◌∙◌, subst}
 use mathlib.Core.Logic.Iff
 use mathlib.Core.Logic.{◌↔◌}
-use mathlib.Core.Bool.{Bool, true, false, not, cond, or-true, ◌||◌, true≢false, false≢true}
+use mathlib.Core.Bool.{Bool, true, false, not, cond, or-true, ◌&&◌, ◌||◌, true≢false, false≢true}
 use mathlib.Core.Option.{Option, none, some}
 use mathlib.Core.List.{List}
 use Prim.Native.Nat.{ℕ, ◌+◌, ◌≤◌, ◌<◌}
@@ -14,14 +14,14 @@ use Rattle.base.specs.Words.{byte}
 use Rattle.base.proofs.Says.{Says, says_true, says_eqb, says_ltb, says_and, says_any, denies, not_not_false, or-false}
 use Rattle.term.specs.Number.{rules, has_one}
 use Rattle.submission.specs.Record.{entries}
-use Rattle.term.specs.Term.{Relation}
+use Rattle.term.specs.Term.{Relation, equal, inverses}
 use Rattle.term.specs.Code.{relation_is}
 use Rattle.term.specs.declared.Relation.{Relation as RelationGiven}
 use Rattle.std.specs.Prelude.{Option as Maybe, Some, None, Result, Ok, Err}
 use Rattle.base.specs.declared.refusal.Refusal.{Refusal}
 use Rattle.std.specs.Option.{ok_or}
-use Rattle.base.specs.{Code.check_of, Computed.fails_if}
-use Rattle.program.specs.Code.{relation_in, asked, asks}
+use Rattle.base.specs.{Answer.number_of, Code.check_of, Computed.fails_if}
+use Rattle.program.specs.Code.{relation_in, asked_by, asked, asks}
 use Rattle.program.specs.Program.{row_of, relation_of, Instruction, program_length, instruction_at, test_at, operand, RegistersFit, ProgramFits}
 use Rattle.base.specs.Computed.{any}
 use Rattle.program.specs.Computed.{good_registers, bad_instruction, bad_test, bad_program}
@@ -30,13 +30,45 @@ use Rattle.program.specs.Computed.{good_registers, bad_instruction, bad_test, ba
 abbrev pub bad_at : ℕ → List ℕ → ℕ → Bool
 bad_at k P i = bad_instruction (k + 1 + i) (instruction_at P i)
 
+-- ---- a test over n registers
+cond_same : (b : Bool) (x : Option Relation) → cond b x x ≡ x
+cond_same true x = refl
+cond_same false x = refl
+
+flip : (b : Bool) (x y : Option Relation) → cond b x y ≡ cond (not b) y x
+flip true x y = refl
+flip false x y = refl
+
+-- every test names two registers
+two_named : (n : ℕ) (r : Relation) (i j : ℕ) → good_registers n (eqb (row_of r).registers 1) i j ≡ (ltb i n && ltb j n)
+two_named n equal i j = refl
+two_named n inverses i j = refl
+
+module _ (n : ℕ) (t : Instruction) where
+  test_asks : cond (ltb t.left n && ltb t.right n) (relation_of t.rule) none ≡ asked_by n t
+  unfolding bad_test
+  test_asks = go (relation_of t.rule)
+    where
+      go : (o : Option Relation) → cond (ltb t.left n && ltb t.right n) o none ≡ cond (elim o [ none ↦ true | some r ↦ not (good_registers n (eqb (row_of r).registers 1) t.left t.right) ]) none o
+      go none = cond_same _ none
+      go (some r) = rw (two_named n r t.left t.right) (flip (ltb t.left n && ltb t.right n) (some r) none)
+
+  pub left_unwritten : {b : Bool} → b ≡ ltb t.left n → b ≡ false → none ≡ asked_by n t
+  left_unwritten e f = rw (← e, f) at test_asks
+
+  pub right_unwritten : {b c : Bool} → b ≡ ltb t.left n → b ≡ true → c ≡ ltb t.right n → c ≡ false → none ≡ asked_by n t
+  right_unwritten e f g h = rw (← e, f, ← g, h) at test_asks
+
+  pub both_written : {b c : Bool} {o : Option Relation} → b ≡ ltb t.left n → b ≡ true → c ≡ ltb t.right n → c ≡ true → o ≡ relation_of t.rule → o ≡ asked_by n t
+  both_written e f g h d = d ∙ rw (← e, f, ← g, h) at test_asks
+
 -- ---- a program
 module _ (s P : List ℕ) {n : ℕ} (c : n ≡ byte P 0) where
-  pub long_program : 128 < n → true ≡ bad_program s P
+  pub long_program : 128 < n → none ≡ asked s P
   unfolding bad_program
   long_program l = rw (← c, lt-ltb 128 n l, or-true)
 
-  pub odd_program : (length P ≡ program_length n → ⊥) → true ≡ bad_program s P
+  pub odd_program : (length P ≡ program_length n → ⊥) → none ≡ asked s P
   unfolding bad_program
   odd_program f = rw (← c, ne_eqb _ _ f, or-true, or-true)
 
@@ -46,11 +78,11 @@ module _ (s P : List ℕ) {n : ℕ} (c : n ≡ byte P 0) where
     unfolding bad_program
     right_length = let o : (length P ≡ 0 → ⊥) = λ z. omega arith in rw (h, ne_eqb _ _ o, ← c, le-ltb 128 n f, eq-eqb _ _ l)
 
-    pub bad_steps : {b : Bool} → b ≡ any (bad_at k P) (byte P 0) → b ≡ true → b ≡ bad_program s P
+    pub bad_steps : {b : Bool} → b ≡ any (bad_at k P) (byte P 0) → b ≡ true → none ≡ asked s P
     bad_steps e t = rw (← right_length, ← e, t)
 
-    pub program_test : {b r : Bool} {t : Instruction} {u w : ℕ} → b ≡ any (bad_at k P) (byte P 0) → b ≡ false → u ≡ k → w ≡ n → t ≡ test_at P → r ≡ bad_test (u + 1 + w) t → r ≡ bad_program s P
-    program_test e a q y z o = o ∙ rw (← right_length, ← e, a, ← z, q, y)
+    pub program_test : {b : Bool} {o : Option Relation} {t : Instruction} {u w : ℕ} → b ≡ any (bad_at k P) (byte P 0) → b ≡ false → u ≡ k → w ≡ n → t ≡ test_at P → o ≡ asked_by (u + 1 + w) t → o ≡ asked s P
+    program_test e a q y z i = i ∙ rw (← right_length, ← e, a, ← z, q, y)
 
 -- ---- what check 13 says: row 13
 says_registers : (n : ℕ) (one : Bool) (i : Instruction) → Says (good_registers n one i.left i.right) (RegistersFit n one i)
@@ -140,18 +172,19 @@ program_iff s P = (up, down)
         )
 
 -- ---- what check 13 answers
-module _ (s P : List ℕ) {b : Bool} (e : b ≡ bad_program s P) where
-  pub nothing_asked : b ≡ true → none ≡ asked s P
-  nothing_asked t = rw (← e, t)
-
-  -- of a good program the test's letter is one, so the refusal r never goes out
-  pub program_checked : (o : Maybe RelationGiven) (r : Refusal) {t : Instruction} → b ≡ false → t ≡ test_at P → relation_in o ≡ relation_of t.rule →
+-- of a good program the test's letter is one, so that nothing is asked exactly where the program is bad
+module _ (s P : List ℕ) where
+  pub program_checked : (o : Maybe RelationGiven) (r : Refusal) → number_of r.fault ≡ 13 → r.place ≡ 0 → relation_in o ≡ asked s P →
       (check_of (ok_or o r) ≡ fails_if (bad_program s P) 13 0) × (asks (ok_or o r) ≡ asked s P)
-  program_checked None r h g f =
-      let w = (program_iff s P).0 (sym e ∙ h) in
-      let z : none ≡ some w.relation = f ∙ rw g w.letter_right in
-      absurd (let o : ◌≡◌ {A = ℕ} 0 1 = cc in omega arith)
-  program_checked (Some x) r h g f = (rw (← e, h), f ∙ rw (← e, h, g))
+  program_checked o r n p e = go o (bad_program s P) refl e
+    where
+      go : (o : Maybe RelationGiven) (b : Bool) → bad_program s P ≡ b → relation_in o ≡ asked s P → (check_of (ok_or o r) ≡ fails_if (bad_program s P) 13 0) × (asks (ok_or o r) ≡ asked s P)
+      go None true f e = (rw (f, n, p), e)
+      go None false f e =
+          let z : none ≡ some ((program_iff s P).0 f).relation = e ∙ rw (f, ((program_iff s P).0 f).letter_right) in
+          absurd (let o : ◌≡◌ {A = ℕ} 0 1 = cc in omega arith)
+      go (Some x) true f e = let z : some (relation_is x) ≡ none = e ∙ rw f in absurd (let o : ◌≡◌ {A = ℕ} 0 1 = cc in omega arith)
+      go (Some x) false f e = (rw f, e)
 
 module _ (s P : List ℕ) {o : Result RelationGiven Refusal} (e : asks o ≡ asked s P) where
   by_case : (b : Bool) → bad_program s P ≡ b → ((x : Refusal) → o ≡ Err x → bad_program s P ≡ true) ×
@@ -165,11 +198,5 @@ module _ (s P : List ℕ) {o : Result RelationGiven Refusal} (e : asks o ≡ ask
     λ x h. (f, rw f at (sym e ∙ ap asks h)),
   )
 
-  pub program_bad : {x : Refusal} → o ≡ Err x → bad_program s P ≡ true
-  program_bad h = (by_case (bad_program s P) refl).0 _ h
-
   pub program_good : {x : RelationGiven} → o ≡ Ok x → bad_program s P ≡ false
   program_good h = ((by_case (bad_program s P) refl).1 _ h).0
-
-  pub program_asks : {x : RelationGiven} → o ≡ Ok x → relation_of (test_at P).rule ≡ some (relation_is x)
-  program_asks h = ((by_case (bad_program s P) refl).1 _ h).1

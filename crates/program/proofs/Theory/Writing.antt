@@ -12,7 +12,7 @@ use borrow.Rule.Slice.PartMut.{mid_of, put_mid}
 use Rattle.base.proofs.Overwrite.{overwrite}
 use Rattle.base.proofs.Parts.{rest_lent, rest_back}
 use Rattle.base.specs.declared.writer.Writer.{Writer}
-use Rattle.base.specs.Answer.{Wrote}
+use Rattle.base.specs.Code.{Wrote}
 use Rattle.base.proofs.PutLaws.{wrote_then}
 use Rattle.program.specs.declared.Instruction.{Instruction as InstructionRead}
 use Rattle.program.specs.declared.Program.{Program as ProgramRead}

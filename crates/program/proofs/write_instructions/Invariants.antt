@@ -1,5 +1,5 @@
 -- `write_instructions` meets its contract: the bytes of the instructions before this one are written.
-use Rattle.base.specs.Answer.{Wrote}
+use Rattle.base.specs.Code.{Wrote}
 use Rattle.program.proofs.Theory.Writing.{code}
 use Rattle.program.proofs.write_instructions.Given as goal
 

@@ -1,18 +1,16 @@
--- `check_listed` meets its contract: the registers passed hold listed terms.
-use Rattle.base.proofs.First.{passed_more}
-use Rattle.base.proofs.StageLaws.{fails_hit, passes_all}
-use Rattle.std.proofs.Common.{rules}
-use Rattle.readback.proofs.ReadReturns.{off_found, on_found, register_in}
+-- `check_listed` meets its contract: the first register whose term isn't listed.
+use Rattle.std.proofs.Common.{◌<◌, ◌≤◌, ◌∙◌, ap, get_or, rules}
+use Rattle.std.proofs.lemmas.Iterator.{first_from_Range}
+use Rattle.base.specs.Computed.{fails_at}
+use Rattle.base.proofs.Find.{place_found}
+use Rattle.readback.specs.Computed.{off_table}
+use Rattle.readback.proofs.ReadReturns.{off_first}
 use Rattle.readback.proofs.check_listed.Goals as goal
 
-pub bounds-numbers-from : goal.bounds-numbers-from
-bounds-numbers-from c = register_in c.args.checked.program.now c.args.checked.submission.read c.args.checked.good c.register_count-registers.ensures c.from.ensures c.loop-r-test.true
-
-pub returns-then-terms-numbers : goal.returns-then-terms-numbers
-returns-then-terms-numbers c = search (fails_hit, off_found, rules)
-
-pub loop-r-preserved : goal.loop-r-preserved
-loop-r-preserved c = search (passed_more, on_found, rules)
-
 pub returns : goal.returns
-returns c = search (passes_all, rules)
+returns c =
+    let l = c.args.numbers.now in
+    let n = c.from-terms.result in
+    let h = first_from_Range _ _ _ _ (λ i. n ≤ get_or l i 0) (λ i. get_or l i 0 < n) c.find.ensures.ran (λ x q k. search rules) (λ x q k. search rules) in
+    c.at_first.ensures ∙ ap (fails_at 17) (place_found (off_table c.args.checked.submission.bytes.now c.args.checked.program.now) c.find.result
+    (off_first c.requires c.terms.ensures c.from-terms.ensures c.register_count.ensures.count c.find.result h) c.register_count.ensures.count)

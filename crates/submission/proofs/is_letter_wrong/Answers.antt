@@ -1,22 +1,15 @@
--- `is_letter_wrong` meets its contract: the letters before i are right.
-use Rattle.base.proofs.Scan.{scan}
-use Rattle.submission.proofs.ContentsTests.{letter_wrong, letter_right}
+-- `is_letter_wrong` meets its contract: the four letters, one after the other.
+use Rattle.std.proofs.Common.{rules, ◌*◌, not, eqb, ◌∷◌, []}
+use Rattle.std.proofs.lemmas.Iterator.{YieldsList-from_slice}
+use Rattle.std.proofs.lemmas.Iterator.Consumers.{YieldsList-from_enumerate}
+use Rattle.std.proofs.lemmas.Iterator.Search.{any_from_yields_List}
+use Rattle.base.specs.Words.{byte}
+use Rattle.base.proofs.Says.{any_four}
+use Rattle.std.proofs.Math.Bool.{or-false}
 use Rattle.submission.proofs.is_letter_wrong.Goals as goal
 
-pub loop-i-init : goal.loop-i-init
-loop-i-init c = search scan
-
-pub overflow_mul-i : goal.overflow_mul-i
-overflow_mul-i c = search scan
-
-pub byte-requires : goal.byte-requires
-byte-requires c = search scan
-
-pub loop-i-preserved : goal.loop-i-preserved
-loop-i-preserved c = search (letter_right, scan)
-
 pub returns : goal.returns
-returns c = search scan
-
-pub returns-then-byte-letter : goal.returns-then-byte-letter
-returns-then-byte-letter c = search (letter_wrong, scan)
+returns c =
+    rw (any_four, ← (or-false (not (eqb (byte c.args.s.now 12) 86))))
+    (any_from_yields_List (λ p. not (eqb (byte c.args.s.now (4 * p.0)) p.1)) _ _ _ c.any.ensures.ran
+    (YieldsList-from_enumerate (YieldsList-from_slice (84 ∷ 75 ∷ 68 ∷ 86 ∷ []) (cc)) (cc)) (λ x b q k. search rules))

@@ -51,13 +51,14 @@ module _ (s : List ℕ) (t room n : ℕ) where
   refused_reading number place e = rw e
 
   module _ (e : checks1to4 s ≡ passes) where
-    pub refused_term : terms s ≤ t → deduction_answer s t room n ≡ refused 12 0
-    unfolding deduction_answer
-    refused_term l = rw (e, le-ltb t (terms s) l)
+    module _ (number place : ℕ) where
+      pub refused_term : fails_if (not (ltb t (terms s))) 12 0 ≡ fails number place → deduction_answer s t room n ≡ refused number place
+      unfolding deduction_answer
+      refused_term f = rw (e, f)
 
-    pub refused_sheet : t < terms s → room < 1000 → deduction_answer s t room n ≡ refused 19 1000
-    unfolding deduction_answer
-    refused_sheet l m = rw (e, lt-ltb t (terms s) l, lt-ltb room 1000 m)
+      pub refused_sheet : fails_if (not (ltb t (terms s))) 12 0 ≡ passes → fails_if (ltb room 1000) 19 1000 ≡ fails number place → deduction_answer s t room n ≡ refused number place
+      unfolding deduction_answer
+      refused_sheet f g = rw (e, f, g)
 
     pub answered_value : t < terms s → 1000 ≤ room → deduction_answer s t room n ≡ done (cond (is_deducible s (entry_marks s) t) (suc n) 0)
     unfolding deduction_answer

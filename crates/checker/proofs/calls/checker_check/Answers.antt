@@ -1,4 +1,4 @@
--- `checker_check` meets its contract: the verdict of `check`, as one number.
+-- `checker_check` meets its contract: what `answer` returns, as one number.
 use Rattle.checker.proofs.EncodingReturns.{written_as}
 use Rattle.checker.proofs.calls.checker_check.Goals as goal
 

@@ -1,6 +1,5 @@
 -- `fire` meets its contract: the walk along the records that wait for u.
-use Prim.Native.Nat.{◌+◌, ◌%◌}
-use Rattle.base.specs.Code.{byte_of_link}
+use Rattle.base.proofs.Chains.{bound_of}
 use Rattle.deduction.proofs.Firing.{Firing}
 use Rattle.deduction.proofs.saturation.fire.Given as goal
 
@@ -8,4 +7,4 @@ abbrev pub invariant-loop-next : goal.invariant-loop-next
 invariant-loop-next l = Firing l.openings.table.bytes.now l.role l.u l.initial.work.marks l.initial.work.order l.initial.work.end l.work.marks l.work.order l.work.end l.next
 
 abbrev pub decreases-loop-next : goal.decreases-loop-next
-decreases-loop-next l = (byte_of_link l.next + 1) % 256
+decreases-loop-next l = bound_of l.next

@@ -6,8 +6,8 @@ use Rattle.deduction.proofs.saturation.saturate.Goals as goal
 pub open_all-requires : goal.open_all-requires
 open_all-requires c = record { queue = search rules; from_le_end = search rules; open_to = open_none }
 
-pub returns-then-only_atoms : goal.returns-then-only_atoms
-returns-then-only_atoms c = search (saturated_atoms, rules)
+pub returns-then-has_compound_key : goal.returns-then-has_compound_key
+returns-then-has_compound_key c = search (saturated_composed, rules)
 
-pub returns : goal.returns
-returns c = search (saturated_composed, rules)
+pub returns-else-has_compound_key : goal.returns-else-has_compound_key
+returns-else-has_compound_key c = search (saturated_atoms, rules)

@@ -1,6 +1,8 @@
--- `Acceptable::given_register`: the entry's register, or the named step's.
-use Rattle.conditions.proofs.ProgramValue.{given_registers}
+-- `Acceptable::given_register`: the entry's register, where no step is named.
+use Rattle.conditions.proofs.ProgramValue.{entry_named}
 use Rattle.conditions.proofs.page.Acceptable.given_register.Goals as goal
 
-pub returns-then-named : goal.returns-then-named
-returns-then-named c = search given_registers
+pub returns-in-None : goal.returns-in-None
+returns-in-None c =
+    entry_named c.args.self.acceptable c.args.self.founded.derivation.claimed c.args.target c.requires _ c.named_step.ensures c.in-None.is (rw c.claimed.ensures.bytes at c.entry_given.ensures)
+    c.unwrap.ensures

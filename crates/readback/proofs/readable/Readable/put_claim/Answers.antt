@@ -8,5 +8,5 @@ number-n-requires c = test_number c.args.self.claimable.numbered c.test_at-t.ens
 
 pub returns : goal.returns
 returns c =
-    claim_put c.args.self.claimable.numbered c.test_at-t.ensures c.args.self.checked.relation c.way.result c.row-row.result c.args.self.checked.asks c.way.ensures c.row-row.ensures
-    c.args.self.checked.submission.claimed refl refl c.verifying-step.ensures c.number-n.ensures c.companion-companion.ensures c.put_all.ensures
+    claim_put c.args.self.claimable.numbered c.test_at-t.ensures c.args.self.checked.relation c.way-way.result c.row-row.result c.args.self.checked.asks c.way-way.ensures c.row-row.ensures
+    c.letter.ensures c.args.self.checked.submission.claimed refl refl c.verifying-step.ensures c.number-n.ensures c.companion-companion.ensures c.put_array.ensures

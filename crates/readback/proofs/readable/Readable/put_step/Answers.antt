@@ -19,4 +19,4 @@ number-conclusion-requires c = result_number c.args.self.claimable.numbered c.re
 
 pub returns : goal.returns
 returns c =
-    step_put c.args.self.claimable.numbered c.requires c.instruction_at-x.ensures c.entries.ensures c.number-p.ensures c.second_number-q.ensures c.number-conclusion.ensures c.put_all.ensures
+    step_put c.args.self.claimable.numbered c.requires c.instruction_at-x.ensures c.entries.ensures c.number-p.ensures c.second_number-q.ensures c.number-conclusion.ensures c.put_array.ensures

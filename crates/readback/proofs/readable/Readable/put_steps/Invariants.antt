@@ -1,6 +1,6 @@
 -- `put_steps` meets its contract: the records of the steps passed are written.
 use Prim.Native.Nat.{◌-◌, ◌≤◌}
-use Rattle.base.specs.Answer.{Wrote}
+use Rattle.base.specs.Code.{Wrote}
 use Rattle.readback.specs.ReadBack.{steps_read}
 use Rattle.readback.proofs.readable.Readable.put_steps.Given as goal
 
