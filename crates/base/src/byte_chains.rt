@@ -44,8 +44,8 @@ impl ByteChains {
         self.before[usize::from(i)]
     }
 
-    // The latest number of i's chain before i for which the test holds. A `find` would need an iterator along the chain, and that a ghost field
-    // that each link is lower, which holds only for the c of `Chained`.
+    // The latest number of i's chain before i for which the test holds. A loop: an iterator along the chain would be a struct with a ghost field and
+    // laws of its `next`, for two walks of three lines, this and that of `fire` in the crate deduction.
     pub fn find_before<F: Fn(u8) -> bool>(&self, i: u8, test: F) -> Option<u8>
         requires in_chain { (c : ℕ → ℕ) × InChain c i self.now.before }
         requires callable { F.IsAlwaysCallable test }

@@ -21,8 +21,9 @@ ghost use Rattle.deduction.specs.Code.{reached_of, SameMarks, Memo, Unbuilt};
 ghost use Rattle.deduction.specs.Saturation.{Exact};
 
 use base::Refusal;
+pub use chains::chained;
 pub use opening::{Clause, Opening, Openings, Role, parts_of};
-pub use saturation::reach_all;
+pub use saturation::{has_compound_key, reach_all};
 use submission::Table;
 pub use worklist::{Origin, Worklist};
 
@@ -49,12 +50,12 @@ struct Known<'a> {
 
 impl Known<'_> {
     // Whether term t can be built, which the memo keeps where it is decided. The parts of t are earlier records, so the number falls, and each term
-    // is decided once. The memo is lent, so that a call holds little: terms nest 250 deep.
-    fn build(self, memo: &mut [Option<bool>; 256], t: u8) -> bool
-        requires t_bound { t < terms self.table.bytes.now }
-        requires memo { Memo self.table.bytes.now self.marks.now memo.old }
-        ensures memo { Memo self.entry.table.bytes.now self.entry.marks.now memo.new }
-        ensures built { result ≡ built self.entry.table.bytes.now (reached_of self.entry.marks.now) t }
+    // is decided once. All but the number is lent, so that a call holds little: terms nest 250 deep.
+    fn build(&self, memo: &mut [Option<bool>; 256], t: u8) -> bool
+        requires t_bound { t < terms self.now.table.bytes.now }
+        requires memo { Memo self.now.table.bytes.now self.now.marks.now memo.old }
+        ensures memo { Memo self.now.table.bytes.now self.now.marks.now memo.new }
+        ensures built { result ≡ built self.now.table.bytes.now (reached_of self.now.marks.now) t }
     {
         let i = usize::from(t);
         if let Some(decided) = memo[i] {

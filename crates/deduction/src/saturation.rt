@@ -39,8 +39,8 @@ fn fire(openings: &Openings, role: Role, chains: &ByteChains, work: &mut Worklis
     ensures { Turns (Fired openings.now.table.bytes.now role u) work.old work.new }
 {
     let mut next = chains.latest(u);
-    // std's `successors` promises no end, and an iterator of our own would need a ghost field that each link is lower: only `Chained`, of one chain's
-    // own function, says so.
+    // A loop: std's `successors` promises no end, and an iterator of our own would be a struct with a ghost field and laws of its `next`, for this walk
+    // and that of `ByteChains::find_before`.
     while let Some(j) = next {
         fire_one(openings, role, work, j);
         next = chains.before(j);

@@ -14,8 +14,7 @@ pub fn read<R: Read>(from: &mut R, buffer: &mut [u8]) -> io::Result<usize>
     ensures begins { IfOk result (λ n. IfSome (R.remaining from.old) (λ bytes. take n buffer.new ≡ take (length buffer.new) bytes)) }
 {
     // It reads on by a loop: a read may give less than is asked for, and of the library's calls that read on, `read_exact` fails at an input that is
-    // shorter than the buffer, `read_to_end` wants a `Vec`, where there is
-    // no heap, and `io::copy` into a slice says nothing of its bytes.
+    // shorter than the buffer, `read_to_end` wants a `Vec`, where there is no heap, and `io::copy` into a slice says nothing of its bytes.
     let mut done: usize = 0;
     while done < buffer.len() {
         let more = from.read(&mut buffer[done..])?;

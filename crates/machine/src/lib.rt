@@ -381,7 +381,7 @@ pub fn run(s: &[u8], name: u16, program: &[u8]) -> Result<u16, Refusal>
 // ---- The registers, with the right guess.
 
 // For each register of a program, run with the right guess, the number of its term where that is listed, and else a number that is not below T.
-// It asks what it asked at first, so a caller that has the two facts needs no value.
+// It asks by clauses, and for no `CheckedProgram`: a caller that has the two facts needs no value.
 pub fn register_numbers(s: &[u8], program: &[u8]) -> [u16; 256]
     requires submission_read { SubmissionRead s.now }
     requires program_value { bad_program s.now program.now ≡ false }

@@ -39,8 +39,8 @@ fn check_listed(checked: CheckedProgram, numbers: &[u16; 256]) -> Result<(), Ref
     ensures { check_of result ≡ fails_at 17 (first (off_table checked.entry.submission.bytes.now checked.entry.program.now) (written checked.entry.submission.bytes.now (byte_at checked.entry.program.now 0))) }
 {
     let terms = u16::from(submission::terms(checked.submission.bytes));
-    Fault::OffTable
-        .at_first((0..register_count(checked)).find(|r| terms <= numbers[usize::from(*r)]))
+    Fault::OffTable.at_first((0..register_count(checked)).find(|r| terms
+        <= numbers[usize::from(*r)]))
 }
 
 // Whether the test's first register is a knowledge register, or both are the guess's.

@@ -55,7 +55,7 @@ pub fn steps(s: &[u8]) -> u8
     byte(s, 9)
 }
 
-// A name for each start: it is the former one, with the former body; one function of the body's index would match on it.
+// A name for each start: it is that of the body before, and that body's length; one function of the body's index would match on it.
 #[tactic(auto, unfolding(crate::specs::Record::start_of))]
 pub fn knowledge_start(s: &[u8]) -> usize
     ensures { Starts s.now 1 result }

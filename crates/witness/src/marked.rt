@@ -51,6 +51,7 @@ impl<'a> Marked<'a> {
         Some(self.step_from(u, n))
     }
 
+    // That t is a term and that it is reached stand in a line each, as in the crate deduction: most goals need one alone.
     // The terms whose steps lead to term t, which is reached: each comes after the premises of its step, and t is the last. A term that is from the
     // start has no step.
     fn choose(self, t: u8) -> Choice

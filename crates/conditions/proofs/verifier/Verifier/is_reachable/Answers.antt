@@ -1,4 +1,4 @@
--- `Verifier::is_reachable`: both premises are listed terms.
+-- `Verifier::is_reachable`: both premises are listed terms. `using` does not find these goals, so the lemmas are named here.
 use Rattle.conditions.proofs.PassedFacts.{founded}
 use Rattle.deduction.proofs.CallReturns.{both_known}
 use Rattle.conditions.proofs.verifier.Verifier.is_reachable.Goals as goal
