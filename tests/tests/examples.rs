@@ -1,12 +1,14 @@
 //! The published examples: text, bytes and verdict belong together, and programs and what they are read
 //! back to.
 
+use std::collections::BTreeSet;
+
 use checker_tests::bodies::Bodies;
 use checker_tests::examples::{file, names, programs, submission, text, Program};
-use checker_tests::generate::UNLISTED;
-use checker_tests::notation::{assemble, show, show_program};
+use checker_tests::generate::{premises, Table, UNLISTED};
+use checker_tests::notation::{assemble, show, show_program, term_number};
 use checker_tests::reference::{
-    contents, derivation_and_claim, is_wrong_guess, program, verdict, write, Refusal,
+    contents, derivation_and_claim, is_wrong_guess, program, verdict, write, Deductions, Refusal,
 };
 use checker_tests::tables::{Body, Kind, Rule, LONGEST_SUBMISSION};
 
@@ -97,6 +99,72 @@ fn each_is_in_the_documentation_with_its_verdict() {
         let first_line = text(&name, "out").lines().next().map(String::from);
         assert_eq!(documented(table, &name), first_line, "{name}");
     }
+}
+
+/// The rows of deductions in the documentation: the example, the term, what it is, and the steps, each as a
+/// line of a derivation.
+fn documented_deductions() -> Vec<[String; 4]> {
+    let (_, section) = include_str!("../../docs/EXAMPLES.md")
+        .split_once("\n## Deductions\n")
+        .expect("it is there");
+    let (section, _) = section.split_once("\n## ").expect("another comes after it");
+    let rows = section.lines().filter_map(|line| line.strip_prefix("| ")?.strip_suffix(" |"));
+    let cells = rows.map(|row| row.split(" | ").map(String::from).collect::<Vec<_>>());
+    let rows = cells.filter(|cells| cells[0] != "name");
+    rows.map(|cells| {
+        let steps = cells[3].split('`').skip(1).step_by(2);
+        let lines: String =
+            steps.enumerate().map(|(at, step)| format!("  {at}: {step}\n")).collect();
+        assert!(cells[3] == "none" || !lines.is_empty(), "{cells:?}");
+        [cells[0].clone(), cells[1].clone(), cells[2].clone(), lines]
+    })
+    .collect()
+}
+
+/// Those of the premises of each verifying step that is refused with 8, of the guess and of its inverse,
+/// where these are deducible; each with steps that have all that has to hold of a deduction.
+#[test]
+fn each_deduction_in_the_documentation_holds() {
+    let rows = documented_deductions();
+    let mut found = BTreeSet::new();
+    for [name, term, what, lines] in &rows {
+        let submission = submission(name);
+        let number = term_number(&submission, term).unwrap().expect("a listed term");
+        let text = text(name, "txt");
+        let (before, after) = text.split_once("derivation\n").expect("the section");
+        let (_, after) = after.split_once("claim\n").expect("the section");
+        let text = format!("{before}derivation\n{lines}claim\n{after}");
+        let steps =
+            Bodies::read(&assemble(&text).expect("a text without a fault")).unwrap().derivation;
+        let holds = Deductions::of(&submission).unwrap().verify(number, &steps);
+        assert_eq!(holds, Ok(()), "{name}, {term}");
+        found.insert((name.clone(), number, what.clone()));
+    }
+    assert_eq!(found.len(), rows.len());
+    let refused = names().into_iter().filter(|name| text(name, "out").starts_with("refused 8 "));
+    assert_eq!(found, refused.flat_map(|name| explained(&name)).collect());
+}
+
+/// The terms of an example that is refused with 8 which a deduction is told of, with what they are.
+fn explained(name: &str) -> Vec<(String, u8, String)> {
+    let submission = submission(name);
+    let bodies = Bodies::read(&submission).unwrap();
+    let [guess, verifying, ..] = bodies.claim;
+    let premises = premises(&bodies.derivation[usize::from(verifying)]);
+    let mut terms: Vec<(u8, String)> = Vec::new();
+    for &premise in premises {
+        let what = if premises.len() == 1 { "the premise" } else { "a premise" };
+        let and_guess = if premise == guess { ", the guess" } else { "" };
+        terms.push((premise, format!("{what}{and_guess}")));
+    }
+    let deductions = Deductions::of(&submission).unwrap();
+    let inverse = Table::of(&bodies.terms).inverse(guess).map(|inverse| (inverse, "the inverse"));
+    for (term, what) in [(guess, "the guess")].into_iter().chain(inverse) {
+        if !premises.contains(&term) && deductions.deducible(term) == Ok(true) {
+            terms.push((term, what.to_string()));
+        }
+    }
+    terms.into_iter().map(|(term, what)| (name.to_string(), term, what)).collect()
 }
 
 /// The public constants of documents 000 to 003, as the texts write them.

@@ -2,9 +2,9 @@
 
 use checker_tests::bodies::Bodies;
 use checker_tests::generate::shapes::{
-    atoms, built, filled, hash_key_chain, largest, largest_built, largest_deducible, listed_last,
-    locked_by_hashes, nested, nested_hash_keys, nested_pairs, private_key_chain, tower, Naming,
-    Nesting, Order, Secrets,
+    atoms, built, filled, hash_key_chain, inverse_key_chain, keys_beside, largest, largest_built,
+    largest_deducible, listed_last, locked_by_hashes, nested, nested_hash_keys, nested_pairs,
+    tower, tower_known, Naming, Nesting, Order, Secrets,
 };
 use checker_tests::generate::{astray, repeated};
 use checker_tests::reference::{deducible, derivation_and_claim, verdict, Refusal};
@@ -41,9 +41,18 @@ fn under_hashes(bodies: &Bodies) -> Vec<usize> {
 
 #[test]
 fn hashes_up_to_the_limit() {
-    let tower = tower(Nesting::Hashes);
+    let tower = tower(Nesting::Hashes, Body::Terms.most());
     assert_eq!((tower.terms.len(), hashes(&tower)), (250, 249));
     assert!(are_deducible(&tower, 0..250));
+}
+
+#[test]
+fn an_atom_in_as_many_pairs_as_can_be() {
+    for kind in Kind::atoms() {
+        let tower = tower_known(kind, Body::Terms.most());
+        assert_eq!((tower.terms.len(), &tower.knowledge[..]), (250, &[249][..]));
+        assert!(are_deducible(&tower, 0..250));
+    }
 }
 
 #[test]
@@ -137,11 +146,21 @@ fn atoms_up_to_the_limit() {
     }
 }
 
+#[test]
+fn keys_beside_what_verifies_the_guess() {
+    for naming in [Naming::BothBytes, Naming::OneLowByte] {
+        let bodies = keys_beside(&[Kind::Public, Kind::Private], naming);
+        assert_eq!(bodies.terms.len(), 250);
+        assert_eq!(first_line(&bodies), "accepted 1");
+        assert!((3..250).all(|key| !are_deducible(&bodies, [key])));
+    }
+}
+
 /// The last term is an atom that nobody knows, and there are few of these.
 #[test]
 fn a_filled_shape_has_so_many_terms() {
     let shapes: [fn(usize) -> Bodies; 3] = [
-        |links| private_key_chain(links, Order::Rising),
+        |links| inverse_key_chain(Kind::Private, links, Order::Rising),
         |levels| nested_pairs(levels, levels / 4, levels / 3),
         |links| hash_key_chain(Secrets::Hashes, links, 0, Order::Falling),
     ];

@@ -195,16 +195,17 @@ fn a_key_is_built_before_it_is_known_otherwise() {
 fn the_longest_deductions() {
     let most = Body::Terms.most();
     for (_, nesting) in Nesting::ALL {
-        let tower = shapes::tower(nesting).submission();
+        let tower = shapes::tower(nesting, most).submission();
         let steps = steps(&tower, 249).unwrap();
         assert_eq!(fault(&tower, 249, &steps), Ok(()));
         assert_eq!(steps.len(), most - 1);
     }
-    let doubling = shapes::doubling_known(most);
-    let atom = doubling.terms.iter().position(|&[kind, _, low]| kind == 1 && low == 100).unwrap();
-    let steps = steps(&doubling.submission(), atom as u8).unwrap();
-    assert_eq!(steps.len(), most - 4);
-    assert_eq!(fault(&doubling.submission(), atom as u8, &steps), Ok(()));
+    for kind in Kind::atoms() {
+        let tower = shapes::tower_known(kind, most).submission();
+        let steps = steps(&tower, 0).unwrap();
+        assert_eq!(fault(&tower, 0, &steps), Ok(()));
+        assert_eq!(steps.len(), most - 1);
+    }
 }
 
 #[test]
@@ -335,7 +336,9 @@ fn the_own_steps_are_good_and_accepted() {
 fn chains_are_followed_to_their_end() {
     let mut chains = Vec::new();
     for (_, order) in Order::ALL {
-        chains.push(shapes::private_key_chain(50, order));
+        for (opener, _) in Kind::inverses() {
+            chains.push(shapes::inverse_key_chain(opener, 50, order));
+        }
         chains.push(shapes::plain_key_chain(40, 20, order));
         for (_, secrets) in Secrets::ALL {
             chains.extend((1..3).map(|depth| shapes::hash_key_chain(secrets, 20, depth, order)));

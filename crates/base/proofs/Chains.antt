@@ -1,5 +1,5 @@
 -- Chains of numbers in two arrays: how they grow by one number, and what a walk along one of them has seen.
-use mathlib.Core.Path.{◌≡◌, refl, sym, ◌∙◌}
+use mathlib.Core.Path.{◌≡◌, refl, sym, ap, ◌∙◌, subst}
 use mathlib.Core.Bool.{Bool, true, false}
 use mathlib.Core.List.{List}
 use mathlib.Core.Logic.{⊎_elim, by_cases}
@@ -9,9 +9,9 @@ use native.Mathlib.Decide.{ℕ_discrete}
 use native.Mathlib.Omega.{arith}
 use lib.ListN.{length, get_or, set, replicate, length-set, length-replicate, get_or-replicate}
 use lib.Seq.{get_or-set_same, get_or-set_other}
-use borrow.Author.Count.{below_more}
+use borrow.Author.{Count.below_more, Tests.ne_eqb}
 use Rattle.std.specs.Prelude.{Option as Maybe, Some, None}
-use Rattle.base.specs.Code.{After, Latest, Chained, Chaining, InChain, FoundBefore}
+use Rattle.base.specs.Code.{After, link_of, Latest, Chained, Chaining, FoundBy}
 use Rattle.base.proofs.Order.{lt_or_ge}
 
 -- ---- one number more
@@ -26,49 +26,53 @@ module _ {c : ℕ → ℕ} {i y : ℕ} where
         last = below_more (λ k. After b k → c k ≡ y → ⊥) i p.last (λ u. d);
       }
 
+-- ---- links
+link_here : (i : ℕ) → i < 255 → link_of i ≡ Some i
+link_here i l = rw (ne_eqb i 255 (λ e. omega arith))
+
 -- ---- arrays of one value
-none_at : (k : ℕ) → k < 256 → get_or (replicate {A = Maybe ℕ} 256 None) k None ≡ None
-none_at k l = get_or-replicate {A = Maybe ℕ} 256 k None None l
+none_at : (k : ℕ) → k < 256 → link_of (get_or (replicate 256 255) k 255) ≡ None
+none_at k l = ap link_of (get_or-replicate {A = ℕ} 256 k 255 255 l)
 
 latest_none : {c : ℕ → ℕ} {y : ℕ} {b : Maybe ℕ} → b ≡ None → Latest c 0 y b
 latest_none e = record { is = λ j h. absurd (let f : None ≡ Some j = sym e ∙ h in let z : ◌≡◌ {A = ℕ} 0 1 = cc in omega arith); last = λ k u. absurd (omega arith) }
 
-pub chaining_none : {c : ℕ → ℕ} → Chaining c 0 (replicate 256 None) (replicate 256 None)
+pub chaining_none : {c : ℕ → ℕ} → Chaining c 0 (replicate 256 255) (replicate 256 255)
 chaining_none =
     record {
-      chained = record { long = length-replicate {A = Maybe ℕ} 256 None; is = λ k b. absurd (omega arith) };
-      long = length-replicate {A = Maybe ℕ} 256 None;
+      chained = record { long = length-replicate {A = ℕ} 256 255; is = λ k b. absurd (omega arith) };
+      long = length-replicate {A = ℕ} 256 255;
       is = λ y l. latest_none (none_at y l);
     }
 
-module _ {c : ℕ → ℕ} {before latest : List (Maybe ℕ)} {i : ℕ} (p : Chaining c i before latest) where
+module _ {c : ℕ → ℕ} {before latest : List ℕ} {i : ℕ} (p : Chaining c i before latest) where
   -- it is in no chain
   pub chaining_apart : 256 ≤ c i → Chaining c (i + 1) before latest
   chaining_apart m =
       record {
         chained = record {
           long = p.chained.long;
-          is = below_more (λ k. c k < 256 → Latest c k (c k) (get_or before k None)) i p.chained.is (λ l. absurd (omega arith));
+          is = below_more (λ k. c k < 256 → Latest c k (c k) (link_of (get_or before k 255))) i p.chained.is (λ l. absurd (omega arith));
         };
         long = p.long;
         is = λ y l. latest_kept (p.is y l) (λ e. omega arith);
       }
 
   -- it is chained by v
-  pub chaining_more : {w v : ℕ} → i < 256 → c i ≡ v → w ≡ i → v < 256 → Chaining c (i + 1) (set before w (get_or latest v None)) (set latest v (Some i))
+  pub chaining_more : {w v : ℕ} → i < 255 → c i ≡ v → w ≡ i → v < 256 → Chaining c (i + 1) (set before w (get_or latest v 255)) (set latest v i)
   chaining_more {w} {v} l y g h =
       let b : w < length before = omega (arith, p.chained.long) in
       record {
         chained = record {
-          long = length-set before w (get_or latest v None) ∙ p.chained.long;
-          is = below_more (λ k. c k < 256 → Latest c k (c k) (get_or (set before w (get_or latest v None)) k None)) i
-              (λ k a. rw (get_or-set_other before w k (get_or latest v None) None (λ x. let z : k ≡ i = x ∙ g in omega arith)) (p.chained.is k a))
-              (λ _. rw (← g, get_or-set_same before w (get_or latest v None) None b, g, y) (p.is v h));
+          long = length-set before w (get_or latest v 255) ∙ p.chained.long;
+          is = below_more (λ k. c k < 256 → Latest c k (c k) (link_of (get_or (set before w (get_or latest v 255)) k 255))) i
+              (λ k a. rw (get_or-set_other before w k (get_or latest v 255) 255 (λ x. let z : k ≡ i = x ∙ g in omega arith)) (p.chained.is k a))
+              (λ _. rw (← g, get_or-set_same before w (get_or latest v 255) 255 b, g, y) (p.is v h));
         };
-        long = length-set latest v (Some i) ∙ p.long;
+        long = length-set latest v i ∙ p.long;
         is = λ a m. by_cases (ℕ_discrete a v)
-            (λ x. rw (x, get_or-set_same latest v (Some i) None (omega (arith, p.long))) (latest_here y))
-            (λ x. rw (get_or-set_other latest v a (Some i) None x) (latest_kept (p.is a m) (λ z. x (sym z ∙ y))));
+            (λ x. rw (x, get_or-set_same latest v i 255 (omega (arith, p.long))) (subst (Latest c (i + 1) v) (sym (link_here i l)) (latest_here y)))
+            (λ x. rw (get_or-set_other latest v a i 255 x) (latest_kept (p.is a m) (λ z. x (sym z ∙ y))));
       }
 
 -- ---- the walk along the chain of y, over the first i numbers: P holds of those from `past` on, and o is the latest before
@@ -113,11 +117,11 @@ module _ {c : ℕ → ℕ} {P : ℕ → Type 0} {i y : ℕ} {o : Maybe ℕ} (p :
     pub walk_seen : (k : ℕ) → j < k → k < i → c k ≡ y → P k
     walk_seen k a l = passed_by k l (rw d a)
 
-    module _ {n w : ℕ} {before : List (Maybe ℕ)} (q : Chained c n before) (m : i ≤ n) (g : w ≡ j) where
-      lower : Latest c j y (get_or before w None)
+    module _ {n w : ℕ} {before : List ℕ} (q : Chained c n before) (m : i ≤ n) (g : w ≡ j) where
+      lower : Latest c j y (link_of (get_or before w 255))
       lower = let b = walk_below in rw (g, ← walk_chain) (q.is j (omega arith) (rw walk_chain p.byte))
 
-      pub walk_more : P j → Walk c P i y (get_or before w None)
+      pub walk_more : P j → Walk c P i y (link_of (get_or before w 255))
       walk_more f =
           let b = walk_below in
           record {
@@ -129,29 +133,29 @@ module _ {c : ℕ → ℕ} {P : ℕ → Type 0} {i y : ℕ} {o : Maybe ℕ} (p :
           }
 
       -- the numbers fall
-      pub walk_less : bound_of (get_or before w None) < bound_of o
+      pub walk_less : bound_of (link_of (get_or before w 255)) < bound_of o
       walk_less = let l = latest_bound _ lower in rw d (omega arith)
 
--- ---- the walk along the chain of i, for each function that before has the chains of; Gave says what the test gave
-pub record Searched (before : List (Maybe ℕ)) (i : ℕ) (Gave : ℕ → Bool → Type 0) (o : Maybe ℕ) : Type 0 where
-  pub walk : (c : ℕ → ℕ) → InChain c i before → Walk c (λ k. Gave k false) i (c i) o
+-- ---- the walk along the chain of y, for each function that the arrays have the chains of; Gave says what the test gave
+pub record Searched (before latest : List ℕ) (y : ℕ) (Gave : ℕ → Bool → Type 0) (o : Maybe ℕ) : Type 0 where
+  pub walk : (c : ℕ → ℕ) (i : ℕ) → Chaining c i before latest → Walk c (λ k. Gave k false) i y o
 
-pub searched_start : {before : List (Maybe ℕ)} {i : ℕ} {Gave : ℕ → Bool → Type 0} {o : Maybe ℕ} → o ≡ get_or before i None → Searched before i Gave o
-searched_start e = record { walk = λ c h. walk_start h.1 (rw e (h.0.is _ (omega arith) h.1)) }
+pub searched_start : {before latest : List ℕ} {y : ℕ} {Gave : ℕ → Bool → Type 0} {o : Maybe ℕ} → y < 256 → o ≡ link_of (get_or latest y 255) → Searched before latest y Gave o
+searched_start l e = record { walk = λ c i h. walk_start l (rw e (h.is _ l)) }
 
-module _ {before : List (Maybe ℕ)} {i : ℕ} {Gave : ℕ → Bool → Type 0} {o : Maybe ℕ} (p : Searched before i Gave o) where
-  pub searched_end : o ≡ None → (c : ℕ → ℕ) → InChain c i before → FoundBefore c i Gave None
-  searched_end e c h = record { is = λ j f. absurd (let z : ◌≡◌ {A = ℕ} 0 1 = cc in omega arith); last = λ k l u. walk_end (p.walk c h) e k l }
+module _ {before latest : List ℕ} {y : ℕ} {Gave : ℕ → Bool → Type 0} {o : Maybe ℕ} (p : Searched before latest y Gave o) where
+  pub searched_end : o ≡ None → (c : ℕ → ℕ) (i : ℕ) → Chaining c i before latest → FoundBy c i y Gave None
+  searched_end e c i h = record { is = λ j f. absurd (let z : ◌≡◌ {A = ℕ} 0 1 = cc in omega arith); last = λ k l u. walk_end (p.walk c i h) e k l }
 
   module _ {j : ℕ} (e : o ≡ Some j) where
-    pub searched_hit : Gave j true → (c : ℕ → ℕ) → InChain c i before → FoundBefore c i Gave (Some j)
-    searched_hit f c h =
-        let w = p.walk c h in
+    pub searched_hit : Gave j true → (c : ℕ → ℕ) (i : ℕ) → Chaining c i before latest → FoundBy c i y Gave (Some j)
+    searched_hit f c i h =
+        let w = p.walk c i h in
         record { is = λ k q. let z : j ≡ k = cc in rw (← z) (walk_below w e, walk_chain w e, f); last = λ k l u. walk_seen w e k u l }
 
-    module _ {o' : Maybe ℕ} (g : o' ≡ get_or before j None) where
-      pub searched_more : Gave j false → Searched before i Gave o'
-      searched_more f = record { walk = λ c h. rw g (walk_more (p.walk c h) e h.0 (omega arith) refl f) }
+    module _ {o' : Maybe ℕ} (g : o' ≡ link_of (get_or before j 255)) where
+      pub searched_more : Gave j false → Searched before latest y Gave o'
+      searched_more f = record { walk = λ c i h. rw g (walk_more (p.walk c i h) e h.chained (le_refl i) refl f) }
 
-      pub searched_less : (c : ℕ → ℕ) × InChain c i before → bound_of o' < bound_of o
-      searched_less (c, h) = rw g (walk_less (p.walk c h) e h.0 (omega arith) refl)
+      pub searched_less : (c : ℕ → ℕ) × (i : ℕ) × Chaining c i before latest → bound_of o' < bound_of o
+      searched_less (c, i, h) = rw g (walk_less (p.walk c i h) e h.chained (le_refl i) refl)

@@ -6,7 +6,7 @@ use Prim.Native.Nat.{ℕ, ◌≤◌, ◌<◌}
 use native.Mathlib.Omega.{arith}
 use Rattle.std.specs.Prelude.{Option as Maybe, Some, None, MatchOption}
 use Rattle.base.specs.Words.{first}
-use Rattle.base.specs.Code.{place_is}
+use Rattle.base.specs.Code.{number_is}
 use Rattle.base.proofs.First.{passed_hit, passed_all}
 
 -- what the library's `first_from_Range` says of the answer v
@@ -23,10 +23,10 @@ module _ (p : ℕ → Bool) {n k : ℕ} (v : Maybe ℕ) (h : FoundIn p n v) (e :
   pub found_some : {i : ℕ} → v ≡ Some i → first p k ≡ some i
   found_some {i} q = let (a, l, t, f) = rw q at h in rw (← e) (passed_hit {i = i} (record { within = omega arith; failed = λ j m. f j (omega arith) m }) l t)
 
-  -- and the place that `Fault::at_first` is given
-  pub place_found : place_is v ≡ first p k
+  -- both at once: the number found, as `Fault::at_first` is given it
+  pub place_found : number_is v ≡ first p k
   place_found = go v refl
     where
-      go : (o : Maybe ℕ) → v ≡ o → place_is o ≡ first p k
+      go : (o : Maybe ℕ) → v ≡ o → number_is o ≡ first p k
       go None q = sym (found_none q)
       go (Some i) q = sym (found_some q)

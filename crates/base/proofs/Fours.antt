@@ -1,4 +1,4 @@
--- Records of four bytes, one after the other: their length, and the bytes of each.
+-- Records of four bytes, one after the other: when they are alike, their length, and the bytes of each.
 use mathlib.Core.Path.{◌≡◌, refl, sym, ap, ◌∙◌}
 use mathlib.Core.Logic.{⊎_elim}
 use mathlib.Core.List.{List, ◌++◌}
@@ -8,6 +8,12 @@ use lib.ListN.{length, length-append, get_or-append}
 use lib.Seq.{get_or-append-add}
 use Rattle.base.specs.Words.{fours, byte}
 use Rattle.base.proofs.Order.{lt_or_ge}
+
+-- records that are alike
+pub fours_alike : (f g : ℕ → List ℕ) (n : ℕ) → ((i : ℕ) → i < n → f i ≡ g i) → fours f n ≡ fours g n
+unfolding fours
+fours_alike f g zero h = refl
+fours_alike f g (suc n) h = rw (fours_alike f g n (λ i l. h i (omega arith)), h n (omega arith))
 
 module _ (f : ℕ → List ℕ) (four : (i : ℕ) → length (f i) ≡ 4) where
   pub fours_length : (n : ℕ) → length (fours f n) ≡ 4 * n

@@ -5,8 +5,8 @@ use Rattle.base.specs.declared.refusal.Fault.{Fault}
 use Rattle.base.specs.declared.refusal.Fault.TheVariants.{Contents, Count, Term, Knowledge, Claim, Step, Unfounded, Reachable, NoSecondWay, Undone, Page, NoSuchTerm, Program, Ragged, Stale, NotShown, OffTable, NoClaim, ShortSheet}
 use Rattle.base.specs.{declared.refusal.Refusal.Refusal, Words.List, Words.[], Words.ℕ, Words.min, Words.length, Words.drop, Words.sets}
 
--- "An acceptance carries N"; deducible's yes and no are 1 and 0, and so is the signal; an acceptance that writes a page "carries their number
--- unless another count is named", of the bytes written. "Every refusal carries number and place."
+-- "An acceptance carries N"; deducible's yes and no are 1 and 0, and so is the signal; a deduction's are 1 + the count of steps and 0; an acceptance
+-- that writes a page "carries their number unless another count is named", of the bytes written. "Every refusal carries number and place."
 pub data Answer : Type 0 where
   done : ℕ → Answer
   refused : ℕ → ℕ → Answer

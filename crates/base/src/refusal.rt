@@ -1,7 +1,7 @@
 // What a check refuses: a row of the table of verdicts, by its word, and the place.
 ghost use Rattle.std.specs.Prelude.{◌≡◌};
 ghost use Rattle.base.specs.Answer.{number_of};
-ghost use Rattle.base.specs.Code.{check_of, place_is};
+ghost use Rattle.base.specs.Code.{check_of, number_is};
 ghost use Rattle.base.specs.Computed.{fails_at, fails_if};
 
 // The rows of the table of verdicts.
@@ -46,7 +46,7 @@ impl Fault {
 
     // A check of places one after the other: it refuses at the first that is wrong, where there is one.
     pub fn at_first(self, wrong: Option<u16>) -> Result<(), Refusal>
-        ensures { check_of result ≡ fails_at (number_of self) (place_is wrong) }
+        ensures { check_of result ≡ fails_at (number_of self) (number_is wrong) }
     {
         match wrong {
             Some(place) => Err(self.at(place)),

@@ -1,21 +1,15 @@
 -- What is promised of a deduction that is shown, where the checker reads it and where it is condition 3's: document 02, A7.
 use Rattle.std.specs.Prelude.{◌≡◌, ◌⊎◌, ◌↔◌, ◌≤◌}
-use Rattle.base.specs.{Words.List, Words.ℕ, Words.suc, Words.Bytes, Answer.Answer, Answer.done, Answer.refused, Answer.Clear, Answer.Answers}
+use Rattle.base.specs.{Words.List, Words.ℕ, Words.suc, Words.Bytes, Answer.done, Answer.refused, Answer.Clear}
 use Rattle.term.specs.{Term.Term, Step.Deducible}
 use Rattle.submission.specs.{Record.p_at, Record.second_at, Record.verifying, Record.InKnowledge, Body.bodies, Body.body_at, Body.submission_of, Check.verifier, Check.claims, Check.rows1to4}
 use Rattle.derivation.specs.Step.{Premise, rows6and7}
-use Rattle.witness.specs.{Deduction.Deduction, Deduction.deduction_rows, Deduction.DeductionValue, Computed.deduction_answer}
+use Rattle.witness.specs.{Deduction.Deduction, Computed.deduction_answer}
 use Rattle.conditions.specs.{Condition.WellFormed, Computed.check_answer}
 
 -- the submission with the steps l in the place of its own derivation
 abbrev pub with_steps : List ℕ → List ℕ → List ℕ
 with_steps s l = submission_of (bodies (body_at s 0) (body_at s 1) l (body_at s 3))
-
--- demand 1 of the call `deduction`, "each fault is refused by its number": the refusal that its rows and their order give, or else whether the term
--- is deducible, and by how many steps; n is the count of the steps that are shown, which is free
-abbrev pub DeductionDemand : Type 0
-DeductionDemand =
-    (s : List ℕ) → Bytes s → (t room n : ℕ) (a : Answer) → (deduction_answer s t room n ≡ a) ↔ Answers (deduction_rows s t room) (DeductionValue s t n) a
 
 pub record ShownPromise : Type 0 where
   -- "a derivation in step records": in the place of the submission's own, where it is no longer than a derivation may be, it passes checks 1 to

@@ -8,8 +8,7 @@ use Prim.Native.Nat.{ℕ, ◌+◌, ◌≤◌, ◌<◌}
 use native.Mathlib.Omega.{arith}
 use lib.Dec.{leb}
 use borrow.Author.Tests.{le-leb, lt-leb}
-use Rattle.base.specs.{Words.first, Code.is_some, Code.place_is}
-use Rattle.base.proofs.Find.{FoundIn, found_none, found_some}
+use Rattle.base.specs.{Words.first, Code.is_some, Code.number_is}
 use Rattle.base.proofs.First.{first_none, first_some, passed_any, passed_not_any}
 use Rattle.base.proofs.Order.{lt_or_ge}
 use Rattle.submission.specs.{Record.entries, Record.steps}
@@ -17,7 +16,6 @@ use Rattle.derivation.specs.{Step.written, Computed.is_known}
 use Rattle.derivation.specs.Code.{Lowest, register_in}
 use Rattle.derivation.specs.Computed.{lowest_among}
 use Rattle.std.specs.Prelude.{Option as Maybe, Some, None, MatchOption, IsSomeAnd, is_some as is_held}
-use Rattle.conditions.specs.Code.{number_is}
 pub use Rattle.derivation.proofs.RegistersHeld.{held_number}
 use Rattle.base.specs.Computed.{any}
 
@@ -27,11 +25,6 @@ module _ {s : List ℕ} {n : ℕ} {g : List (Maybe ℕ)} (w : Lowest s n g) (t :
   register_found = ap number_is e ∙ w.each t b
 
 -- ---- a number that is found
--- by `find`
-pub first_found_is : (p : ℕ → Bool) {n m : ℕ} (v : Maybe ℕ) → n ≡ m → FoundIn p n v → number_is v ≡ first p m
-first_found_is p None e h = sym (found_none p None h e refl)
-first_found_is p (Some i) e h = sym (found_some p (Some i) h e refl)
-
 -- whether it is below m
 module _ (p : ℕ → Bool) (n m : ℕ) (l : m ≤ n) where
   none_below : first p n ≡ none → false ≡ any p m
@@ -58,8 +51,8 @@ module _ (s : List ℕ) (t : ℕ) (v : Maybe ℕ) (e : number_is v ≡ lowest_am
       go None g h = h ∙ none_below _ (written s (steps s)) (written s 0) (omega arith) (sym e ∙ ap number_is g)
       go (Some i) g h = m i h ∙ found_below _ (written s (steps s)) (written s 0) (omega arith) i k (omega arith) (sym e ∙ ap number_is g)
 
--- a place mapped to its own number
-pub mapped : (o r : Maybe ℕ) → MatchOption o (r ≡ None) (λ x. IsSomeAnd r (λ y. y ≡ x)) → place_is r ≡ place_is o
-mapped None r h = ap place_is h
+-- a number mapped to its own value
+pub mapped : (o r : Maybe ℕ) → MatchOption o (r ≡ None) (λ x. IsSomeAnd r (λ y. y ≡ x)) → number_is r ≡ number_is o
+mapped None r h = ap number_is h
 mapped (Some x) None h = absurd h
 mapped (Some x) (Some y) h = ap some h

@@ -1,13 +1,12 @@
 -- What holds of a submission that passed checks 1 to 7, of one that passed all checks before 11, and of its records as the code reads them.
 use mathlib.Core.Path.{◌≡◌, subst}
-use mathlib.Core.Bool.{Bool, true, ◌&&◌, not, cond}
+use mathlib.Core.Bool.{Bool, true, ◌&&◌, not}
 use mathlib.Core.List.{List}
 use Prim.Native.Nat.{ℕ, ◌<◌}
-use Rattle.term.specs.Number.{has_one}
 use Rattle.submission.specs.declared.Claim.{Claim}
 use Rattle.base.specs.Computed.{passes, fails_if, fails_at}
 use Rattle.submission.specs.Code.{Limited, IsClaim}
-use Rattle.submission.specs.Record.{terms, steps, verifying, way_at, second_at}
+use Rattle.submission.specs.Record.{terms, steps, verifying, way_at, second_for, second_at}
 use Rattle.submission.specs.Check.{way_of, Target, Claims, verifier, derived, claims}
 use Rattle.submission.specs.Computed.{checks1to5}
 use Rattle.base.proofs.AnswerLaws.{if_passes, then_passes}
@@ -26,8 +25,7 @@ use Rattle.conditions.specs.Code.{Founded, Acceptable}
 use Rattle.base.specs.Words.{first}
 
 -- the second premise of step i, read off its record
-pub second_is : {s : List ℕ} {i r : ℕ} {a : Step} → IsStep s i a → r ≡ cond (has_one a.rule) a.p a.q → r ≡ second_at s i
-unfolding second_at
+pub second_is : {s : List ℕ} {i r : ℕ} {a : Step} → IsStep s i a → r ≡ second_for a.rule a.p a.q → r ≡ second_at s i
 second_is h e = cc (e, h.rule, h.first, h.second)
 
 -- ---- checks 1 to 7
@@ -51,14 +49,14 @@ module _ {s : List ℕ} (h : Founded s) where
     pub first_below : a.p < terms s
     first_below = rw x.first verifying_sound.p_below
 
-    pub second_below : {u : ℕ} → u ≡ cond (has_one a.rule) a.p a.q → u < terms s
+    pub second_below : {u : ℕ} → u ≡ second_for a.rule a.p a.q → u < terms s
     second_below e = rw (second_is x e) (second_listed verifying_sound)
 
 -- ---- check 8
-pub reachable_is : {s : List ℕ} {c : Claim} {a : Step} {u : ℕ} {r : Bool} → IsClaim s c → IsStep s c.step a → u ≡ cond (has_one a.rule) a.p a.q →
+pub reachable_is : {s : List ℕ} {c : Claim} {a : Step} {u : ℕ} {r : Bool} → IsClaim s c → IsStep s c.step a → u ≡ second_for a.rule a.p a.q →
     r ≡ (is_deducible s (entry_marks s) a.p && is_deducible s (entry_marks s) u) → r ≡ reachable s
 unfolding reachable
-reachable_is k x e f = rw (← k.step, ← x.first, ← (second_is x e)) f
+reachable_is k x e f = rw (← k.step, ← (second_is x e), ← x.first) f
 
 pub ruleset founded = (founded_read, founded_limited, first_below, second_below, reachable_is)
 

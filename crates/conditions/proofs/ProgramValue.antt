@@ -9,7 +9,7 @@ use native.Mathlib.Omega.{arith}
 use lib.Dec.{eqb}
 use lib.ListN.{length, take, drop}
 use borrow.Author.Tests.{eq-eqb, eqb-true}
-use Rattle.base.specs.{Code.is_some}
+use Rattle.base.specs.Code.{is_some, number_is}
 use Rattle.base.proofs.Says.{says_true, says_and}
 use Rattle.term.specs.Number.{has_one}
 use Rattle.submission.specs.declared.Claim.{Claim}
@@ -21,7 +21,7 @@ use Rattle.submission.specs.Code.{way_is, target_is, operand_is, step_named, IsR
 use Rattle.program.specs.Program.{bytes_of, program_length}
 use Rattle.derivation.specs.declared.Step.{Step}
 use Rattle.derivation.specs.{Step.written, Computed.is_known}
-use Rattle.submission.specs.Record.{second_at}
+use Rattle.submission.specs.Record.{second_for, second_at}
 use Rattle.derivation.specs.Computed.{unfounded}
 use Rattle.derivation.specs.Code.{IsStep}
 use Rattle.derivation.specs.Computed.{lowest_among}
@@ -37,7 +37,7 @@ use Rattle.base.specs.Words.{listed}
 use Rattle.base.proofs.Grow.{length_listed}
 use Rattle.program.proofs.Theory.Value.{Holds, held_steps}
 use Rattle.conditions.specs.Calls.{lowest, entry_given, named, instruction, program, test_for}
-use Rattle.conditions.specs.Code.{number_is, Acceptable, Held}
+use Rattle.conditions.specs.Code.{Acceptable, Held}
 use Rattle.conditions.specs.Computed.{entry_found, is_given}
 use Rattle.conditions.proofs.PassedFacts.{second_is, founded_claimed, acceptable_founded, acceptable_limited, second_way_lem, target_given}
 use Rattle.submission.proofs.Theory.ListedTerms.{Claimed, verifying_below, given_range}
@@ -62,8 +62,9 @@ module _ {s : List ℕ} (h : Acceptable s) {i : ℕ} {a : Step} (x : IsStep s i 
   first_kept = rw x.first (known_stays s i (steps s) _ (omega arith) (first_known s i step_founded))
 
   pub second_kept : {b : Bool} → b ≡ has_one a.rule → b ≡ false → is_known s (steps s) a.q ≡ true
+  unfolding second_for
   second_kept q n =
-      let z : a.q ≡ second_at s i = second_is x (rw (← q, n)) in
+      let z : a.q ≡ second_at s i = second_is x (rw (second_for, ← q, n)) in
       rw z (known_stays s i (steps s) _ (omega arith) (second_known s i step_founded))
 
 -- ---- the registers that the test names: what each operand of the way's row asks can be had

@@ -5,7 +5,6 @@ use Rattle.base.specs.{Computed.passes, Words.Bytes}
 use Rattle.submission.specs.{Record.steps, Record.rule_at, Record.conclusion_at, Record.verifying, Record.companion, Check.Operand, Check.verifying_result, Check.companion_result, Check.lowest_conclusion, Check.lowest_companion, Check.guess_register, Check.given_register, Check.derived, Check.claims, Computed.checks1to5}
 use Rattle.term.specs.Term.{Term}
 use Rattle.derivation.specs.{Computed.is_known, Computed.check_steps, Step.rule, Step.Premise}
-pub use Rattle.derivation.specs.Code.{number_is}
 use Rattle.conditions.specs.{Computed.same_premises, Computed.checks_before_page}
 
 -- bytes that passed checks 1 to 7

@@ -37,7 +37,7 @@ impl<'a> Founded<'a> {
     }
 
     // Whether t is a premise of step i.
-    #[tactic(auto, unfolding(submission::specs::Record::second_at))]
+    #[tactic(auto, unfolding(submission::specs::Record::second_for))]
     fn is_premise(self, i: u8, t: u8) -> bool
         ensures { result ≡ is_premise self.entry.derivation.bytes.now i t }
     {
@@ -46,7 +46,7 @@ impl<'a> Founded<'a> {
     }
 
     // Whether each premise of step i is one of step j.
-    #[tactic(auto, unfolding(submission::specs::Record::second_at))]
+    #[tactic(auto, unfolding(submission::specs::Record::second_for))]
     fn has_premises(self, j: u8, i: u8) -> bool
         ensures { result ≡ (is_premise self.entry.derivation.bytes.now j (p_at self.entry.derivation.bytes.now i) && is_premise self.entry.derivation.bytes.now j (second_at self.entry.derivation.bytes.now i)) }
     {

@@ -2,9 +2,8 @@
 ghost use Rattle.std.specs.Prelude.{◌≡◌, not};
 ghost use Rattle.submission.specs.Code.{target_is};
 ghost use Rattle.base.specs.Computed.{fails_if};
-ghost use Rattle.base.specs.Code.{check_of};
+ghost use Rattle.base.specs.Code.{check_of, number_is};
 ghost use Rattle.conditions.specs.Computed.{is_target, entry_found, is_given};
-ghost use Rattle.conditions.specs.Code.{number_is};
 
 use base::{Fault, Refusal};
 use derivation::Derivation;

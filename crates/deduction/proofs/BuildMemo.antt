@@ -129,6 +129,11 @@ module _ {s : List ℕ} (known : Marks) {t i : ℕ} (w : TableRead s) (l : t < t
           let q : built s (reached_of known) t ≡ built s (reached_of known) y = compound_built known w l e d o g ∙ rw r in
           k ∙ sym q
 
+-- two terms that are marked
+pub both_marked : {s : List ℕ} (known : Marks) {p q i j : ℕ} → TableRead s → p < terms s → q < terms s → i ≡ p → j ≡ q → Reached known i → Reached known j →
+    true ≡ (built s (reached_of known) p && built s (reached_of known) q)
+both_marked known w l m e f a b = rw (sym (now_known known w l e a), sym (now_known known w m f b))
+
 -- ---- the returns of `is_missing`
 pub not_missing : {s : List ℕ} {known : Marks} {k : ℕ} → Unbuilt s known k false
 not_missing = record { no = λ b. absurd (false≢true b) }

@@ -1,6 +1,6 @@
 -- The answers: the returns of `are_built`, `are_deducible` and `is_deducible`.
-use mathlib.Core.Path.{◌≡◌, ap₂, ◌∙◌}
-use mathlib.Core.Bool.{Bool, ◌&&◌}
+use mathlib.Core.Path.{◌≡◌, ap₂, ◌∙◌, refl}
+use mathlib.Core.Bool.{Bool, true, false, ◌&&◌}
 use mathlib.Core.List.{List}
 use Prim.Native.Nat.{ℕ, ◌<◌}
 use Rattle.submission.specs.Record.{terms}
@@ -17,9 +17,13 @@ pub both_deducible : {s : List ℕ} {known : Marks} {start : List Bool} {p q : �
 both_deducible {p = p} {q = q} x b c e = e ∙ ap₂ ◌&&◌ (x.is p b) (x.is q c)
 
 -- ---- from the knowledge
+twice : (b : Bool) → (b && b) ≡ b
+twice true = refl
+twice false = refl
+
 module _ {s : List ℕ} (start : List Bool) (v : TableRead s) (m : SameMarks s start (entry_marks s)) where
-  pub said_known : {known : Marks} {t : ℕ} {b : Bool} → Exact s start known → t < terms s → b ≡ built s (reached_of known) t → b ≡ is_deducible s (entry_marks s) t
-  said_known {t = t} x l e = e ∙ x.is t l ∙ same_start (facts v) m t l
+  pub said_known : {t : ℕ} {b : Bool} → t < terms s → b ≡ (is_deducible s start t && is_deducible s start t) → b ≡ is_deducible s (entry_marks s) t
+  said_known {t = t} l e = e ∙ twice (is_deducible s start t) ∙ same_start (facts v) m t l
 
   pub both_known : {p q : ℕ} {r : Bool} → p < terms s → q < terms s → r ≡ (is_deducible s start p && is_deducible s start q) →
       r ≡ (is_deducible s (entry_marks s) p && is_deducible s (entry_marks s) q)

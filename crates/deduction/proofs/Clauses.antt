@@ -138,21 +138,21 @@ clause_comes {s} {t} {Had} Second {u} {x} {y} e a b =
     from_parts x u (sym f) (ap (λ k. parts_of (record_at s k)) f ∙ p) b a
 
 -- ---- the chains of the records that wait for a term
-pub linked_start : (s : List ℕ) (role : Role) {b l : List (Maybe ℕ)} → b ≡ replicate 256 None → l ≡ replicate 256 None → Chaining (linked s role) 0 b l
+pub linked_start : (s : List ℕ) (role : Role) {b l : List ℕ} → b ≡ replicate 256 255 → l ≡ replicate 256 255 → Chaining (linked s role) 0 b l
 linked_start s role e f = rw (e, f) chaining_none
 
-module _ {s : List ℕ} {i n : ℕ} (v : TableRead s) (d : i < n) (k : n ≡ terms s) (role : Role) {o : Maybe Clause} (e : o ≡ clause_of s role i) {b l : List (Maybe ℕ)}
+module _ {s : List ℕ} {i n : ℕ} (v : TableRead s) (d : i < n) (k : n ≡ terms s) (role : Role) {o : Maybe Clause} (e : o ≡ clause_of s role i) {b l : List ℕ}
     (p : Chaining (linked s role) i b l) where
   pub linked_apart : o ≡ None → Chaining (linked s role) (i + 1) b l
   unfolding linked
   linked_apart f = chaining_apart p (rw (← e, f) (omega arith))
 
-  pub linked_more : {c : Clause} {b' l' : List (Maybe ℕ)} → o ≡ Some c → b' ≡ set b i (get_or l c.term None) → l' ≡ set l c.term (Some i) → Chaining (linked s role) (i + 1) b' l'
+  pub linked_more : {c : Clause} {b' l' : List ℕ} → o ≡ Some c → b' ≡ set b i (get_or l c.term 255) → l' ≡ set l c.term i → Chaining (linked s role) (i + 1) b' l'
   unfolding linked
   linked_more {c} f g h =
       let f' : clause_of s role i ≡ from c.term c.other c.result = sym e ∙ f in
       let (a, _, _) = clause_listed v (omega arith) role f' in
       rw (g, h) (chaining_more p (omega (arith, (facts v).terms_most)) (ap awaited f') refl (omega (arith, (facts v).terms_most)))
 
-pub linked_end : (s : List ℕ) (role : Role) {b l : List (Maybe ℕ)} {i n : ℕ} → Chaining (linked s role) i b l → i ≤ terms s → n ≤ i → n ≡ terms s → Chaining (linked s role) (terms s) b l
+pub linked_end : (s : List ℕ) (role : Role) {b l : List ℕ} {i n : ℕ} → Chaining (linked s role) i b l → i ≤ terms s → n ≤ i → n ≡ terms s → Chaining (linked s role) (terms s) b l
 linked_end s role {b} {l} p a c e = subst (λ k. Chaining (linked s role) k b l) (omega arith) p

@@ -6,7 +6,7 @@ use Prim.Native.Nat.{ℕ, ◌+◌, ◌-◌, ◌≤◌, ◌<◌}
 use native.Mathlib.Decide.{ℕ_discrete}
 use native.Mathlib.Omega.{arith}
 use lib.ListN.{get_or}
-use Rattle.base.specs.Code.{Chaining}
+use Rattle.base.specs.Code.{link_of, Chaining}
 use Rattle.base.proofs.Chains.{Walk, bound_of, walk_start, walk_end, walk_weaker, walk_below, walk_chain, walk_more, walk_less}
 use Rattle.submission.specs.Code.{TableRead}
 use Rattle.submission.specs.Record.{terms}
@@ -54,8 +54,8 @@ pub record Firing (s : List ℕ) (role : Role) (u : ℕ) (m₀ : Marks) (o₀ : 
   pub grown : Grown s m₀ o₀ end₀ m o end
   pub walk : Walk (linked s role) (λ t. (x y : ℕ) → clause_of s role t ≡ from u x y → Reached m₀ x → Reached m y) (terms s) u n
 
-pub firing_start : {s : List ℕ} {m : Marks} {o : List ℕ} {before latest : List (Maybe ℕ)} {role : Role} {end u : ℕ} {n : Maybe ℕ} → TableRead s → Chaining (linked s role) (terms s) before latest →
-    Queue s m o end → u < terms s → n ≡ get_or latest u None → Firing s role u m o end m o end n
+pub firing_start : {s : List ℕ} {m : Marks} {o : List ℕ} {before latest : List ℕ} {role : Role} {end u : ℕ} {n : Maybe ℕ} → TableRead s → Chaining (linked s role) (terms s) before latest →
+    Queue s m o end → u < terms s → n ≡ link_of (get_or latest u 255) → Firing s role u m o end m o end n
 firing_start {u = u} v c q l e =
     let b : u < 256 = omega (arith, (facts v).terms_most) in
     record { grown = grown_none q; walk = walk_start b (rw e (c.is u b)) }
@@ -73,7 +73,7 @@ module _ {s : List ℕ} {m₀ : Marks} {o₀ : List ℕ} {m : Marks} {o : List �
     unfolding linked
     firing_ready l a = record { is = λ u' x y f. let g : u' ≡ u = ap awaited (sym f) ∙ walk_chain p.walk e in rw g (p.grown.sound.holds u l a) }
 
-    module _ {before latest : List (Maybe ℕ)} {n' : Maybe ℕ} (v : TableRead s) (c : Chaining (linked s role) (terms s) before latest) (g : n' ≡ get_or before j None) where
+    module _ {before latest : List ℕ} {n' : Maybe ℕ} (v : TableRead s) (c : Chaining (linked s role) (terms s) before latest) (g : n' ≡ link_of (get_or before j 255)) where
       pub firing_more : {m' : Marks} {o' : List ℕ} {end' : ℕ} → FiredOne s role j m o end m' o' end' → Firing s role u m₀ o₀ end₀ m' o' end' n'
       firing_more f =
           record {

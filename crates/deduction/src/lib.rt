@@ -13,7 +13,7 @@ pub mod opening;
 pub mod saturation;
 pub mod worklist;
 
-ghost use Rattle.std.specs.Prelude.{◌≡◌, ◌&&◌, ◌<◌};
+ghost use Rattle.std.specs.Prelude.{◌≡◌, ◌&&◌, ◌<◌, replicate, None};
 ghost use Rattle.submission.specs.Record.{terms};
 ghost use Rattle.base.specs.Answer.{answer_of};
 ghost use Rattle.deduction.specs.Computed.{built, entry_marks, is_deducible, deducible_answer};
@@ -21,7 +21,7 @@ ghost use Rattle.deduction.specs.Code.{reached_of, SameMarks, Memo, Unbuilt};
 ghost use Rattle.deduction.specs.Saturation.{Exact};
 
 use base::Refusal;
-pub use chains::chained;
+pub use chains::chain_records;
 pub use opening::{Clause, Opening, Openings, Role, parts_of};
 pub use saturation::{has_compound_key, reach_all};
 use submission::Table;
@@ -87,12 +87,17 @@ impl Known<'_> {
         parts.is_none()
     }
 
-    // Whether the terms p and q can both be built. Each is decided once: an atom that is missing at once, with no memo.
+    // Whether the terms p and q can both be built. Where both are marked, or one is an atom that is missing, no memo is made; else each term is
+    // decided once.
+    #[tactic(auto, using(crate::proofs::BuildMemo::both_marked))]
     fn are_built(self, p: u8, q: u8) -> bool
         requires p_bound { p < terms self.table.bytes.now }
         requires q_bound { q < terms self.table.bytes.now }
         ensures { result ≡ (built self.entry.table.bytes.now (reached_of self.entry.marks.now) p && built self.entry.table.bytes.now (reached_of self.entry.marks.now) q) }
     {
+        if self.marks[usize::from(p)].is_some() && self.marks[usize::from(q)].is_some() {
+            return true;
+        }
         if self.is_missing(p) {
             return false;
         }
@@ -106,13 +111,16 @@ impl Known<'_> {
 
 // ---- The calls.
 
-// The terms that are deducible from those that `start` marks are those that can be built over these marks, of terms that are reached. The marks of
-// numbers that are no terms count for nothing.
-fn saturated(table: Table, start: &[bool; 256]) -> Worklist
-    ensures { Exact table.entry.bytes.now start.now result.marks }
+// Finds the inverses, and marks what taking apart reaches from the terms that `start` marks: the terms that are deducible from these are those that can
+// be built over the marks, of terms that are reached. The marks of numbers that are no terms count for nothing.
+fn saturate_from(table: Table, start: &[bool; 256], work: &mut Worklist)
+    requires marks { work.old.marks ≡ replicate 256 None }
+    requires end { work.old.end ≡ 0 }
+    ensures { Exact table.entry.bytes.now start.now work.new.marks }
 {
-    let openings = Openings::of(table);
-    saturation::saturate(&openings, start)
+    let mut inverses = [None; 256];
+    let openings = Openings::of(table, &mut inverses);
+    saturation::saturate(&openings, start, work);
 }
 
 // Whether the terms p and q are both deducible from the terms that `start` marks. The terms are taken apart once.
@@ -122,7 +130,8 @@ pub fn are_deducible(table: Table, start: &[bool; 256], p: u8, q: u8) -> bool
     requires q_bound { q < terms table.bytes.now }
     ensures { result ≡ (is_deducible table.entry.bytes.now start.now p && is_deducible table.entry.bytes.now start.now q) }
 {
-    let work = saturated(table, start);
+    let mut work = Worklist::new();
+    saturate_from(table, start, &mut work);
     let known = Known {
         table,
         marks: &work.marks,
@@ -135,13 +144,8 @@ fn is_deducible(table: Table, t: u8) -> bool
     requires { t < terms table.bytes.now }
     ensures { result ≡ is_deducible table.entry.bytes.now (entry_marks table.entry.bytes.now) t }
 {
-    let work = saturated(table, &knowledge_marks(table.bytes));
-    let known = Known {
-        table,
-        marks: &work.marks,
-    };
-    let mut memo = [None; 256];
-    known.build(&mut memo, t)
+    // Twice the one term: the second time it is decided.
+    are_deducible(table, &knowledge_marks(table.bytes), t, t)
 }
 
 // Whether term t is deducible from the knowledge of the submission: 1 for yes, 0 for no. A number, as `run` and the calls for C answer: one `encode`

@@ -2,7 +2,7 @@
 ghost use Rattle.std.specs.Prelude.{◌≡◌, ◌<◌};
 ghost use Rattle.submission.specs.Record.{terms, record_at};
 ghost use Rattle.inverse.specs.Code.{Inverses};
-ghost use Rattle.deduction.specs.Code.{parts_of, opening_of, key_clause, first_clause, second_clause, clause_of};
+ghost use Rattle.deduction.specs.Code.{parts_of, opening_of, key_clause, clause_of};
 
 use submission::Table;
 use term::Kind;
@@ -46,18 +46,19 @@ pub struct Clause {
 
 // The table with the number of each term's inverse, where one is listed.
 // Its functions ask for a number below T, each in a line: a value of number and table would be made at each number read, and ask the same there.
-#[derive(Drop)]
+#[derive(Clone, Copy)]
 pub struct Openings<'a> {
     pub table: Table<'a>,
-    pub inverses: [Option<u8>; 256],
-    pub ghost found: { Inverses table.bytes.now inverses },
+    pub inverses: &'a [Option<u8>; 256],
+    pub ghost found: { Inverses table.bytes.now inverses.now },
 }
 
 impl<'a> Openings<'a> {
-    pub fn of(table: Table<'a>) -> Self
+    // The inverses are found in the array that is lent.
+    pub fn of(table: Table<'a>, inverses: &'a mut [Option<u8>; 256]) -> Self
         ensures { result.table.bytes.now ≡ table.entry.bytes.now }
     {
-        let inverses = inverse::find(table);
+        inverse::find(table, inverses);
         Openings { table, inverses }
     }
 

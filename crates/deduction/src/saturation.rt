@@ -6,7 +6,7 @@ ghost use Rattle.submission.specs.Record.{terms};
 ghost use Rattle.deduction.specs.Code.{Reached, linked, has_hash_key};
 ghost use Rattle.deduction.specs.Saturation.{Holds, Turns, Queue, Ready, FiredOne, Fired, TakenApart, Grown, OpenTo, Composed, ComposedTo, Entered, Worked, BuiltOne, BuiltAll, AllReached};
 
-use crate::chains::{KeyChains, PartChains, chained};
+use crate::chains::{KeyChains, PartChains, chain_records};
 use crate::opening::{Opening, Openings, Role, parts_of};
 use crate::worklist::{Origin, Worklist};
 use base::ByteChains;
@@ -40,7 +40,7 @@ fn fire(openings: &Openings, role: Role, chains: &ByteChains, work: &mut Worklis
 {
     let mut next = chains.latest(u);
     // A loop: std's `successors` promises no end, and an iterator of our own would be a struct with a ghost field and laws of its `next`, for this walk
-    // and that of `ByteChains::find_before`.
+    // and that of `ByteChains::find`.
     while let Some(j) = next {
         fire_one(openings, role, work, j);
         next = chains.before(j);
@@ -67,8 +67,7 @@ fn take_apart(openings: &Openings, work: &mut Worklist, u: u8)
     }
 }
 
-// The terms that `start` marks, where none is marked yet. In place: an answered worklist is copied, a tenth more instructions for `check` of a small
-// submission.
+// The terms that `start` marks, where none is marked yet.
 fn enter(table: Table, start: &[bool; 256], work: &mut Worklist)
     requires marks { work.old.marks ≡ replicate 256 None }
     requires end { work.old.end ≡ 0 }
@@ -119,7 +118,7 @@ impl KeyChains<'_> {
         while head < work.end {
             let u = work.order[head];
             take_apart(self.openings, work, u);
-            fire(self.openings, Role::Key, &self.keys, work, u);
+            fire(self.openings, Role::Key, self.keys, work, u);
             head += 1;
         }
     }
@@ -133,12 +132,14 @@ impl KeyChains<'_> {
         ensures open_to_2 { Holds (OpenTo self.now.openings.now.table.bytes.now) work.new }
         ensures composed_to { Holds (ComposedTo self.now.openings.now.table.bytes.now) work.new }
     {
-        let firsts = chained(self.openings, Role::First);
-        let seconds = chained(self.openings, Role::Second);
+        let mut firsts = ByteChains::new();
+        chain_records(self.openings, Role::First, &mut firsts);
+        let mut seconds = ByteChains::new();
+        chain_records(self.openings, Role::Second, &mut seconds);
         let parts = PartChains {
             keys: self,
-            firsts,
-            seconds,
+            firsts: &firsts,
+            seconds: &seconds,
         };
         let mut head = 0;
         // The order grows while it is gone through, so no range gives it.
@@ -161,8 +162,8 @@ impl PartChains<'_> {
     {
         let end = work.end;
         let openings = self.keys.openings;
-        fire(openings, Role::First, &self.firsts, work, u);
-        fire(openings, Role::Second, &self.seconds, work, u);
+        fire(openings, Role::First, self.firsts, work, u);
+        fire(openings, Role::Second, self.seconds, work, u);
         self.keys.open_all(work, end);
     }
 }
@@ -171,20 +172,22 @@ impl PartChains<'_> {
 
 // Marks, from those of `start`, all terms that taking apart reaches; where a compound term is a key, those that can be built too. The terms that
 // are deducible from those that `start` marks are those that can be built over the marks.
-pub(crate) fn saturate(openings: &Openings, start: &[bool; 256]) -> Worklist
-    ensures { Holds (Worked openings.now.table.bytes.now start.now) result }
+pub(crate) fn saturate(openings: &Openings, start: &[bool; 256], work: &mut Worklist)
+    requires marks { work.old.marks ≡ replicate 256 None }
+    requires end { work.old.end ≡ 0 }
+    ensures { Holds (Worked openings.now.table.bytes.now start.now) work.new }
 {
+    let mut waiting = ByteChains::new();
+    chain_records(openings, Role::Key, &mut waiting);
     let keys = KeyChains {
         openings,
-        keys: chained(openings, Role::Key),
+        keys: &waiting,
     };
-    let mut work = Worklist::new();
-    enter(openings.table, start, &mut work);
-    keys.open_all(&mut work, 0);
+    enter(openings.table, start, work);
+    keys.open_all(work, 0);
     if has_compound_key(openings.table.bytes) {
-        keys.compose_all(&mut work);
+        keys.compose_all(work);
     }
-    work
 }
 
 // ---- Every term that can be built.
@@ -218,10 +221,11 @@ fn build_all(table: Table, work: &mut Worklist)
 
 // Marks every listed term that is deducible from those that `start` marks, with how it was reached, and puts them in an order in which each
 // comes after those that it was reached from.
-pub fn reach_all(openings: &Openings, start: &[bool; 256]) -> Worklist
-    ensures { Holds (AllReached openings.now.table.bytes.now start.now) result }
+pub fn reach_all(openings: &Openings, start: &[bool; 256], work: &mut Worklist)
+    requires marks { work.old.marks ≡ replicate 256 None }
+    requires end { work.old.end ≡ 0 }
+    ensures { Holds (AllReached openings.now.table.bytes.now start.now) work.new }
 {
-    let mut work = saturate(openings, start);
-    build_all(openings.table, &mut work);
-    work
+    saturate(openings, start, work);
+    build_all(openings.table, work);
 }

@@ -10,6 +10,7 @@ pub enum Origin {
 }
 
 // The mark of each term that was reached says how, and the first `end` of `order` are the terms that are marked.
+// It is lent to what fills it, as the inverses and the chains are: an array that is answered is cleared once more, and copied.
 // Arrays and a count, since the project uses no heap: they are memory of a fixed size.
 // What it is for a table stands in the contracts, as `Queue`: for a ghost field it would hold the table, and each function that changes it would then
 // promise, in the place of asking for `Queue`, that the table stays.
@@ -25,7 +26,7 @@ impl Worklist {
     ghost use Rattle.std.specs.Prelude.{◌≡◌, replicate, None};
     ghost use Rattle.deduction.specs.Saturation.{Turns, Pushed, PushedWith};
 
-    pub(crate) fn new() -> Self
+    pub fn new() -> Self
         ensures marks { result.marks ≡ replicate 256 None }
         ensures end { result.end ≡ 0 }
     {

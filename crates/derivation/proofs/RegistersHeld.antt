@@ -10,7 +10,7 @@ use lib.Dec.{eqb}
 use lib.ListN.{length}
 use lib.Seq.{get_or-set_same, get_or-set_other}
 use borrow.Author.Tests.{eq-eqb, eqb-true, eqb-false}
-use Rattle.base.specs.{Words.first_from, Words.first, Code.is_some, Computed.any}
+use Rattle.base.specs.{Words.first_from, Words.first, Code.is_some, Code.number_is, Computed.any}
 use Rattle.base.proofs.BoolLaws.{and_both, and_left, and_right}
 use Rattle.base.proofs.FirstGrowing.{first_kept, first_next, first_same}
 use Rattle.submission.specs.declared.Claim.{Claim}
@@ -18,7 +18,7 @@ use Rattle.submission.specs.{Code.Limited, Code.way_is, Code.IsClaim, Record.ent
 use Rattle.derivation.specs.declared.Step.{Step}
 use Rattle.derivation.specs.declared.Registers.{Registers}
 use Rattle.derivation.specs.Step.{guess_counts, register_term, register_counts, holds_term, written}
-use Rattle.derivation.specs.Code.{IsStep, Lowest, Registered, Unused, Held, holding, number_is, register_in}
+use Rattle.derivation.specs.Code.{IsStep, Lowest, Registered, Unused, Held, holding, register_in}
 use Rattle.derivation.proofs.Theory.RegisterTerms.{entry_register, guess_register, result_register, counts_other, counts_guess}
 use Rattle.derivation.specs.Computed.{lowest_among}
 use Rattle.std.specs.Prelude.{Option as Maybe, None, Some, is_some as is_held}

@@ -5,9 +5,8 @@ use mathlib.Core.List.{List}
 use Prim.Native.Nat.{ℕ, ◌+◌, ◌≤◌, ◌<◌}
 use native.Mathlib.Omega.{arith}
 use Rattle.base.proofs.First.{Passed as PassedTo, passed_more, passed_hit, passed_all}
-use Rattle.term.specs.Number.{has_one}
 use Rattle.base.specs.Computed.{passes, fails, fails_if, and_then}
-use Rattle.submission.specs.Record.{steps, second_at}
+use Rattle.submission.specs.Record.{steps, second_for}
 use Rattle.base.specs.Code.{check_of}
 use Rattle.std.specs.Prelude.{Result, Ok, Err, Option as Maybe, is_some as is_held}
 use Rattle.base.specs.declared.refusal.Refusal.{Refusal}
@@ -25,8 +24,8 @@ module _ {s : List ℕ} {i : ℕ} {f : List (Maybe ℕ)} {st : Step} (h : Lowest
   unfolding unfounded
   first_unknown k d = rw (← x.first, held_any h st.p l, ← e, k, d)
 
-  pub second_decides : {a b : Bool} {u : ℕ} {w : Maybe ℕ} → is_held v ≡ not a → a ≡ false → u ≡ cond (has_one st.rule) st.p st.q → u < 256 → w ≡ register_in f u → is_held w ≡ not b → b ≡ unfounded s i
-  unfolding unfounded second_at
+  pub second_decides : {a b : Bool} {u : ℕ} {w : Maybe ℕ} → is_held v ≡ not a → a ≡ false → u ≡ second_for st.rule st.p st.q → u < 256 → w ≡ register_in f u → is_held w ≡ not b → b ≡ unfounded s i
+  unfolding unfounded
   second_decides {u = u} n d k m g y =
       rw (← x.first, ← x.second, ← x.rule, ← k, held_any h st.p l, ← e, n, d, held_any h u m, ← g, y, not-not)
 

@@ -1,9 +1,9 @@
 -- What the code's records mean in document 01's terms.
-use mathlib.Core.{Path.◌≡◌, List.List, Option.Option, Option.none, Option.some}
+use mathlib.Core.{Path.◌≡◌, List.List}
 use Rattle.std.specs.Prelude.{ℕ, ◌<◌, ◌+◌, Result, Ok, Option as Maybe, Some, None}
 use Rattle.std.specs.Option.{option_or}
 use lib.{ListN.length, ListN.get_or, ListN.set}
-use Rattle.base.specs.{Computed.Check, Computed.fails_if, Computed.and_then, Code.check_of}
+use Rattle.base.specs.{Computed.Check, Computed.fails_if, Computed.and_then, Code.check_of, Code.number_is}
 use Rattle.submission.specs.{Record.steps, Record.rule_at, Record.p_at, Record.q_at, Record.conclusion_at}
 use Rattle.base.specs.declared.refusal.Refusal.{Refusal}
 use Rattle.derivation.specs.declared.Step.{Step}
@@ -16,11 +16,6 @@ pub record IsStep (s : List ℕ) (i : ℕ) (r : Step) : Type 0 where
   pub first : r.p ≡ p_at s i
   pub second : r.q ≡ q_at s i
   pub conclusion : r.conclusion ≡ conclusion_at s i
-
--- a number, where there is one
-abbrev pub number_is : Maybe ℕ → Option ℕ
-number_is None = none
-number_is (Some n) = some n
 
 -- the lowest register that holds the term t, where first has one
 abbrev pub register_in : List (Maybe ℕ) → ℕ → Maybe ℕ

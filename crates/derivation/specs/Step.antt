@@ -21,16 +21,7 @@ concluded s i = term s (conclusion_at s i)
 abbrev pub Premise : List ℕ → ℕ → Term → Type 0
 Premise s i x = (x ≡ first_premise s i) ⊎ (x ≡ second_premise s i)
 
--- step i is right in rule, numbers and shape. "Rules 1 and 2 have q = 0." A2: rule 7 "with q = 0"
-pub record StepFits (s : List ℕ) (i : ℕ) : Type 0 where
-  pub rule_below : rule_at s i < rules
-  pub p_below : p_at s i < terms s
-  pub q_below : q_at s i < terms s
-  pub conclusion_below : conclusion_at s i < terms s
-  pub unused : has_one (rule_at s i) ≡ true → q_at s i ≡ 0
-  pub step : Step (rule s i) (first_premise s i) (second_premise s i) (concluded s i)
-
--- and so is the record of a step, "rule, p, q, conclusion"
+-- a step record, "rule, p, q, conclusion", is right in rule, numbers and shape. "Rules 1 and 2 have q = 0." A2: rule 7 "with q = 0"
 pub record RecordFits (s : List ℕ) (r p q c : ℕ) : Type 0 where
   pub rule_below : r < rules
   pub p_below : p < terms s
@@ -38,6 +29,10 @@ pub record RecordFits (s : List ℕ) (r p q c : ℕ) : Type 0 where
   pub conclusion_below : c < terms s
   pub unused : has_one r ≡ true → q ≡ 0
   pub step : Step (head_of r) (term s p) (term s (second_for r p q)) (term s c)
+
+-- step i is right, by its record
+abbrev pub StepFits : List ℕ → ℕ → Type 0
+StepFits s i = RecordFits s (rule_at s i) (p_at s i) (q_at s i) (conclusion_at s i)
 
 -- A5: in ways k and j "the guess doesn't count as known"
 abbrev pub guess_counts : Claims → Bool

@@ -2,12 +2,13 @@
 // Promises: every function is total, and its answer is what the definitions of specs/ give.
 #![tactic(auto)]
 
-ghost use Rattle.std.specs.Prelude.{◌≡◌, ◌&&◌, ◌<◌, ◌+◌, cond, eqb};
+ghost use Rattle.std.specs.Prelude.{◌≡◌, ◌&&◌, ◌<◌, ◌+◌, eqb};
 ghost use Rattle.std.specs.Option.{option_eq};
 ghost use Rattle.term.specs.Term.{asymmetric, pair, encryption, compound};
-ghost use Rattle.term.specs.Number.{shape_of, rules as rule_count, head_of, has_one};
+ghost use Rattle.term.specs.Number.{shape_of, rules as rule_count, head_of};
 ghost use Rattle.term.specs.Computed.{kind_of};
 ghost use Rattle.term.specs.Code.{builder_of};
+ghost use Rattle.submission.specs.Record.{second_for};
 ghost use Rattle.submission.specs.Computed.{are_inverse};
 ghost use Rattle.derivation.specs.Computed.{follows as follows_by, bad_step};
 ghost use Rattle.derivation.specs.Code.{IsStep, Unused, Held, register_in};
@@ -42,8 +43,9 @@ pub fn step_at(s: &[u8], i: u8) -> Step
 
 impl Step {
     // The second premise; one premise counts as both.
+    #[tactic(auto, unfolding(submission::specs::Record::second_for))]
     pub fn second(self) -> u8
-        ensures { result ≡ cond (has_one self.rule) self.p self.q }
+        ensures { result ≡ second_for self.rule self.p self.q }
     {
         rules::second_operand(self.rule, self.p, self.q)
     }

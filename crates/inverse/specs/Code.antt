@@ -1,12 +1,21 @@
 -- What the code's arrays mean.
-use Rattle.std.specs.Prelude.{◌≡◌, ◌≤◌, ◌<◌, Option, Some, None}
-use Rattle.base.specs.Words.{Option as Searched, none, some, true, false, cond, List, ℕ, length, get_or, first}
-use Rattle.term.specs.{Term.asymmetric, Term.is_key_for, Number.shape_of}
+use Rattle.std.specs.Prelude.{◌≡◌, ◌+◌, ◌%◌, ◌≤◌, ◌<◌, Option, Some, None}
+use Rattle.base.specs.Words.{Option as Searched, none, some, true, false, List, ℕ, length, get_or, first}
+use Rattle.term.specs.{Term.public, Term.private, Term.Shape, Term.atomic, Number.shape_of}
 use Rattle.submission.specs.{Record.terms, Record.kind_at, Record.y_at, Computed.are_inverse}
 
--- the byte by which keys are chained, the last one of the name; what is no key is in no chain
+-- the byte by which a key is chained: of a public one the last byte of its name, y, and of a private one the byte opposite to it; what is no key is
+-- in no chain
+abbrev pub opposite : ℕ → ℕ
+opposite y = (y + 128) % 256
+
+abbrev pub chain_of : Searched Shape → ℕ → ℕ
+chain_of (some (atomic public)) y = y
+chain_of (some (atomic private)) y = opposite y
+chain_of _ y = 256
+
 abbrev pub key_chain : List ℕ → ℕ → ℕ
-key_chain s n = cond (is_key_for asymmetric (shape_of (kind_at s n))) (y_at s n) 256
+key_chain s n = chain_of (shape_of (kind_at s n)) (y_at s n)
 
 -- o is the number of an inverse of term n among the first i terms, if there is one
 abbrev pub InverseAmong : List ℕ → ℕ → ℕ → Option ℕ → Type 0

@@ -17,7 +17,7 @@ use Rattle.submission.specs.{Code.SubmissionRead}
 use Rattle.derivation.specs.Step.{written}
 use Rattle.program.specs.{Program.test_at, Computed.bad_program}
 use Rattle.machine.specs.Code.{RegisterNumbers}
-use Rattle.readback.specs.ReadBack.{steps_read, claim_read, bodies_read, bodies_length}
+use Rattle.readback.specs.ReadBack.{derivation_read, claim_read, bodies_read, bodies_length}
 use Rattle.readback.specs.Computed.{off_table, no_claim, read_back_answer}
 use Rattle.readback.specs.Code.{Numbered, Claimable}
 use Rattle.readback.specs.Calls.{BodiesWritten}
@@ -30,7 +30,7 @@ module _ {s P l : List ℕ} (page : List ℕ) {b n : ℕ} (z : Claimable s P l) 
   q = z.numbered
 
   pub page_written : {r : Result (Unit {0}) Refusal} {x : Unit {0}} {u v : Writer} {page' : List ℕ} {w : Writer} → check_of r ≡ check_room n (length page) → r ≡ Ok x →
-      Wrote u (steps_read s P (byte P 0)) v → Wrote v (claim_read s P) w → u.buffer.now ≡ page → u.at ≡ 0 → page' ≡ w.buffer.now → BodiesWritten s P page (Ok n) page'
+      Wrote u (derivation_read s P) v → Wrote v (claim_read s P) w → u.buffer.now ≡ page → u.at ≡ 0 → page' ≡ w.buffer.now → BodiesWritten s P page (Ok n) page'
   unfolding read_back_answer
   page_written h p d c i j m =
       let g : n ≡ bodies_length (byte P 0) = f ∙ ap bodies_length e in

@@ -32,7 +32,7 @@ use Rattle.machine.proofs.Theory.StartState.{facts}
 use Rattle.readback.specs.ReadBack.{number, step_read, way_from, way_read, verifying_read, companion_read, claim_read}
 use Rattle.readback.specs.Computed.{off_table}
 use Rattle.readback.specs.Code.{Numbered}
-use Rattle.readback.proofs.Theory.ReadBackAnswer.{says_off_table, number_is, listed_on}
+use Rattle.readback.proofs.Theory.ReadBackAnswer.{says_off_table, listed_number, listed_on}
 
 -- ---- check 17: v terms and n registers were counted
 module _ {s P l : List ℕ} {t v n : ℕ} (z : RegisterNumbers s P l) (te : t ≡ terms s) (ve : v ≡ t) (ne : n ≡ written s (byte P 0)) where
@@ -64,7 +64,7 @@ all_numbered {s} {P} {l} w g z e p =
       table = on;
       long = z.long;
       below = below;
-      is = λ r b. sym (number_is (facts w).read P r (get_or l r 0) (below r b) (sym (z.listed r b (below r b))));
+      is = λ r b. sym (listed_number (facts w).read P r (get_or l r 0) (below r b) (sym (z.listed r b (below r b))));
     }
 
 -- ---- the records

@@ -1,6 +1,6 @@
 -- From a program back to its derivation and its claim: document 02, A6.
 use Rattle.std.specs.Prelude.{◌≡◌, ◌⊎◌, ◌∷◌, ◌++◌, ◌+◌, ◌-◌, ◌*◌, ◌<◌}
-use Rattle.base.specs.{Words.Bool, Words.true, Words.false, Words.ite, Words.cond, Words.List, Words.[], Words.Option, Words.none, Words.some, Words.ℕ, Words.zero, Words.suc, Words.eqb, Words.ltb, Words.first, Words.byte, Answer.numbered, Answer.row11}
+use Rattle.base.specs.{Words.Bool, Words.true, Words.false, Words.ite, Words.cond, Words.List, Words.[], Words.Option, Words.none, Words.some, Words.ℕ, Words.eqb, Words.ltb, Words.first, Words.fours, Words.byte, Answer.numbered, Answer.row11}
 use Rattle.term.specs.{Term.Relation, Term.equal, Term.inverses, Number.has_one, Computed.term?}
 use Rattle.submission.specs.Record.{terms, entries, guess, term}
 use Rattle.submission.specs.Check.{Way, another_step, at_start, inverse_key, guess_derived, inverse_derived, Range, step_number, term_number, zero_only, step_or_knowledge, knowledge_step, row}
@@ -30,13 +30,9 @@ step_read s P i =
     ∷ number s P (written s i)
     ∷ []
 
--- the first n of them
-unfoldable pub steps_read : List ℕ → List ℕ → ℕ → List ℕ
-steps_read s P zero = []
-steps_read s P (suc i) = steps_read s P i ++ step_read s P i
-
+-- one for each instruction
 abbrev pub derivation_read : List ℕ → List ℕ → List ℕ
-derivation_read s P = steps_read s P (byte P 0)
+derivation_read s P = fours (step_read s P) (byte P 0)
 
 -- "The test is read as the layout writes it: the guess register first means k or j; else `i` means c, and `=` means a with a step's register
 -- second, b with a lower one." By what the test asks, whether the guess register is first, and whether a step's is second; a letter that is no

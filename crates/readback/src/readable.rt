@@ -14,7 +14,7 @@ ghost use Rattle.derivation.specs.Step.{written};
 ghost use Rattle.program.specs.Program.{test_at};
 ghost use Rattle.program.specs.Code.{test_in};
 ghost use Rattle.machine.specs.Code.{RegisterNumbers};
-ghost use Rattle.readback.specs.ReadBack.{step_of, step_read, steps_read, way_from, verifying_read, companion_read, claim_read};
+ghost use Rattle.readback.specs.ReadBack.{step_of, step_read, derivation_read, way_from, verifying_read, companion_read, claim_read};
 ghost use Rattle.readback.specs.Computed.{off_table, no_claim};
 ghost use Rattle.readback.specs.Code.{Claimable};
 ghost use Rattle.readback.specs.Calls.{BodiesWritten};
@@ -79,7 +79,7 @@ impl<'a> Readable<'a> {
     }
 
     fn put_steps(self, page: &mut Writer)
-        ensures { Wrote page.old (steps_read self.entry.checked.submission.bytes.now self.entry.checked.program.now (byte_at self.entry.checked.program.now 0)) page.new }
+        ensures { Wrote page.old (derivation_read self.entry.checked.submission.bytes.now self.entry.checked.program.now) page.new }
     {
         let n = byte(self.checked.program, 0);
         for i in 0..n {

@@ -10,7 +10,7 @@ use native.Mathlib.Omega.{arith}
 use lib.Dec.{eqb, ltb}
 use lib.ListN.{get_or, set}
 use borrow.Author.Tests.{lt-ltb, le-ltb}
-use Rattle.base.specs.{Computed.any, Code.is_some, Code.Flagged, Code.Chained, Code.Chaining, Code.InChain, Code.FoundBefore}
+use Rattle.base.specs.{Computed.any, Code.is_some, Code.Flagged, Code.Chaining, Code.FoundBy}
 use Rattle.base.proofs.Chains.{chaining_more}
 use Rattle.std.specs.Prelude.{Option as Maybe, Some, None, is_some as maybe_some}
 use Rattle.base.proofs.First.{first_found}
@@ -33,21 +33,18 @@ chain_apart : (s : List ℕ) (i k : ℕ) → (chained_by s k ≡ chained_by s i 
 chain_apart s i k d = (denies _ (says_same s i k)).1 (λ (e, (x, y)). d (rw (x, y)))
 
 -- one record more
-pub record_chained : (s : List ℕ) {before latest before' latest' : List (Maybe ℕ)} {i v n : ℕ} {t : Term} → Chaining (chained_by s) i before latest → i < n → n < 256 → IsTerm s i t → v ≡ (21 * t.x + t.y) % 256 →
-    before' ≡ set before i (get_or latest v None) → latest' ≡ set latest v (Some i) → Chaining (chained_by s) (i + 1) before' latest'
+pub record_chained : (s : List ℕ) {before latest before' latest' : List ℕ} {i v n : ℕ} {t : Term} → Chaining (chained_by s) i before latest → i < n → n < 256 → IsTerm s i t → v ≡ (21 * t.x + t.y) % 256 →
+    before' ≡ set before i (get_or latest v 255) → latest' ≡ set latest v i → Chaining (chained_by s) (i + 1) before' latest'
 record_chained s p l m q o e f = rw (e, f) (chaining_more p (omega arith) (sym (o ∙ rw (q.x, q.y))) refl (omega arith))
 
--- every record is in a chain
-pub record_in_chain : (s : List ℕ) (i : ℕ) {before : List (Maybe ℕ)} → Chained (chained_by s) (i + 1) before → InChain (chained_by s) i before
-record_in_chain s i q = (q, omega arith)
-
 -- what is found among the earlier records of its chain
-pub repeated_found : (s : List ℕ) (i : ℕ) {Gave : ℕ → Bool → Type 0} (o : Maybe ℕ) {r : Bool} → FoundBefore (chained_by s) i Gave o → ((j : ℕ) (b : Bool) → Gave j b → same_record s i j ≡ b) →
-    r ≡ maybe_some o → r ≡ any (same_record s i) i
+pub repeated_found : (s : List ℕ) {i y : ℕ} {t : Term} {Gave : ℕ → Bool → Type 0} (o : Maybe ℕ) {r : Bool} → IsTerm s i t → y ≡ (21 * t.x + t.y) % 256 → FoundBy (chained_by s) i y Gave o →
+    ((j : ℕ) (b : Bool) → Gave j b → same_record s i j ≡ b) → r ≡ maybe_some o → r ≡ any (same_record s i) i
 unfolding any
-repeated_found s i None f same e =
-    e ∙ false_any (record { within = le_refl i; failed = λ k l. by_cases (ℕ_discrete (chained_by s k) (chained_by s i)) (λ x. same k false (f.last k l tt x)) (chain_apart s i k) }) (le_refl i)
-repeated_found s i (Some j) f same e =
+repeated_found s {i} {y} None q g f same e =
+    let z : chained_by s i ≡ y = sym (g ∙ rw (q.x, q.y)) in
+    e ∙ false_any (record { within = le_refl i; failed = λ k l. by_cases (ℕ_discrete (chained_by s k) y) (λ x. same k false (f.last k l tt x)) (λ d. chain_apart s i k (λ x. d (x ∙ z))) }) (le_refl i)
+repeated_found s {i} (Some j) q g f same e =
     let (l, _, h) = f.is j refl in
     let (k, g, u, v) = first_found (same_record s i) i j l (same j true h) in
     e ∙ sym (ap is_some g)

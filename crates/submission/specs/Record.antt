@@ -67,13 +67,13 @@ p_at s i = byte s (start s 2 + 4 * i + 1)
 abbrev pub q_at : List ℕ → ℕ → ℕ
 q_at s i = byte s (start s 2 + 4 * i + 2)
 
--- "Rules 1 and 2 have q = 0"; A2: rule 7, "with q = 0". One premise counts as both
-unfoldable pub second_at : List ℕ → ℕ → ℕ
-second_at s i = cond (has_one (rule_at s i)) (p_at s i) (q_at s i)
-
--- the second premise of a step of this rule and with these premises
+-- the second premise of a step record. "Rules 1 and 2 have q = 0"; A2: rule 7, "with q = 0". One premise counts as both
 unfoldable pub second_for : ℕ → ℕ → ℕ → ℕ
 second_for r p q = cond (has_one r) p q
+
+-- and of step i
+abbrev pub second_at : List ℕ → ℕ → ℕ
+second_at s i = second_for (rule_at s i) (p_at s i) (q_at s i)
 
 abbrev pub conclusion_at : List ℕ → ℕ → ℕ
 conclusion_at s i = byte s (start s 2 + 4 * i + 3)

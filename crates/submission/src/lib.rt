@@ -2,7 +2,7 @@
 // Promises: every function is total, for all bytes, and its answer is what the definitions of specs/ give.
 #![tactic(auto)]
 
-ghost use Rattle.std.specs.Prelude.{◌≡◌, ◌&&◌, not, cond, ◌+◌, ◌*◌, ◌%◌, ◌<◌, eqb, get_or};
+ghost use Rattle.std.specs.Prelude.{◌≡◌, ◌&&◌, ℕ, not, cond, ◌+◌, ◌*◌, ◌%◌, ◌<◌, eqb, get_or};
 ghost use Rattle.base.specs.Words.{false, first, byte as byte_at};
 ghost use Rattle.term.specs.Term.{symmetric, asymmetric, is_key_for};
 ghost use Rattle.term.specs.Number.{shape_of};
@@ -12,7 +12,7 @@ ghost use Rattle.submission.specs.Record.{letter, count as count_in, start, term
 ghost use Rattle.submission.specs.Computed.{are_inverse, bad_contents, check_limits, in_range, shape_fits, same_record, bad_term, bad_knowledge, good_claim, checks1to4, checks1to5};
 ghost use Rattle.submission.specs.Check.{way_of, row, verifier, derived, step_number, zero_only, step_or_knowledge, verifying_result, guess_register, given_register};
 ghost use Rattle.base.specs.Computed.{any, fails_at, fails_if};
-ghost use Rattle.base.specs.Code.{check_of, Flagged, Chained};
+ghost use Rattle.base.specs.Code.{check_of, Flagged, Chaining};
 ghost use Rattle.submission.specs.Code.{Starts, IsTerm, way_is, ReadsWay, range_is, target_is, claims_is, operand_is, IsRow, IsClaimBytes, ClaimRead, step_named, chained_by};
 
 pub mod read;
@@ -170,7 +170,8 @@ impl Term {
     pub fn is_inverse_of(self, other: Term) -> bool
         ensures { result ≡ (inverse_kinds self.kind other.kind && (eqb self.x other.x && eqb self.y other.y)) }
     {
-        self.name() == other.name() && self.has_inverse_kind(other)
+        // Byte by byte: by `name`, `deducible` of a table full of keys takes a tenth longer.
+        self.x == other.x && self.y == other.y && self.has_inverse_kind(other)
     }
 }
 
@@ -282,11 +283,11 @@ pub fn check_counts(s: &[u8]) -> Result<(), Refusal>
 
 // ---- Check 3, term.
 
-// Whether record i is of some kind, with parts that are earlier terms, the second of a kind that this kind takes.
-fn shape_fits(s: &[u8], i: u8) -> bool
+// Whether record i, which is t, is of some kind, with parts that are earlier terms, the second of a kind that this kind takes.
+fn shape_fits(s: &[u8], i: u8, t: Term) -> bool
+    requires { IsTerm s.now i t }
     ensures { result ≡ shape_fits s.now i (shape_of (kind_at s.now i)) }
 {
-    let t = term_at(s, i);
     if t.is_atom() {
         return true;
     }
@@ -302,24 +303,6 @@ fn shape_fits(s: &[u8], i: u8) -> bool
     t.takes(term_at(s, t.y))
 }
 
-// Whether an earlier record equals record i. Only those of its chain are compared. `Chained` is asked and is no field of the chains: it grows
-// with each number, so a field would hold between no two writes.
-fn is_repeated(s: &[u8], chains: &ByteChains, i: u8) -> bool
-    requires { Chained (chained_by s.now) (i + 1) chains.now.before }
-    ensures { result ≡ any (same_record s.now i) i }
-{
-    let t = term_at(s, i);
-    chains.find_before(i, |j| term_at(s, j) == t).is_some()
-}
-
-#[tactic(auto, unfolding(crate::specs::Computed::bad_term))]
-fn is_term_bad(s: &[u8], chains: &ByteChains, i: u8) -> bool
-    requires { Chained (chained_by s.now) (i + 1) chains.now.before }
-    ensures { result ≡ bad_term s.now i }
-{
-    !shape_fits(s, i) || is_repeated(s, chains, i)
-}
-
 // The byte by which a record is chained, the same for equal records. The factor spreads records that have one x or one y, and those whose x
 // and y rise or fall together: at most four of 256 such have the same byte.
 fn chain_of(t: Term) -> u8
@@ -328,17 +311,36 @@ fn chain_of(t: Term) -> u8
     t.x.wrapping_mul(21).wrapping_add(t.y)
 }
 
-// Each record is chained before it is looked at: the loop changes the chains, which `find` would hide in a closure.
+// Whether one of the records that are chained equals t: those before record i, where it is record i. Only those of its chain are compared. `Chaining`
+// is asked and is no field of the chains: it grows with each number, so a field would hold between no two writes.
+fn is_repeated(s: &[u8], chains: &ByteChains, t: Term) -> bool
+    requires { (i : ℕ) × Chaining (chained_by s.now) i chains.now.before chains.now.latest }
+    ensures { (i : ℕ) → Chaining (chained_by s.now) i chains.now.before chains.now.latest → IsTerm s.now i t → result ≡ any (same_record s.now i) i }
+{
+    chains.find(chain_of(t), |j| term_at(s, j) == t).is_some()
+}
+
+#[tactic(auto, unfolding(crate::specs::Computed::bad_term))]
+fn is_term_bad(s: &[u8], chains: &ByteChains, i: u8, t: Term) -> bool
+    requires chaining { Chaining (chained_by s.now) i chains.now.before chains.now.latest }
+    requires term { IsTerm s.now i t }
+    ensures { result ≡ bad_term s.now i }
+{
+    !shape_fits(s, i, t) || is_repeated(s, chains, t)
+}
+
+// The loop changes the chains, which `find` would hide in a closure.
 pub fn check_terms(s: &[u8]) -> Result<(), Refusal>
     ensures { check_of result ≡ fails_at 3 (first (bad_term s.now) (term_count s.now)) }
 {
     let n = terms(s);
     let mut chains = ByteChains::new();
     for i in 0..n {
-        chains.chain(chain_of(term_at(s, i)), i);
-        if is_term_bad(s, &chains, i) {
+        let t = term_at(s, i);
+        if is_term_bad(s, &chains, i, t) {
             return Err(Fault::Term.at(u16::from(i)));
         }
+        chains.chain(chain_of(t), i);
     }
     Ok(())
 }

@@ -3,7 +3,7 @@ use mathlib.Core.Path.{◌≡◌, refl, sym, ap, ◌∙◌, subst}
 use mathlib.Core.Logic.{◌↔◌, inl, inr, ⊎_elim}
 use mathlib.Core.Bool.{Bool}
 use mathlib.Core.List.{List}
-use Prim.Native.Nat.{ℕ, zero, suc, ◌+◌, ◌-◌, ◌*◌, ◌≤◌, ◌<◌}
+use Prim.Native.Nat.{ℕ, suc, ◌+◌, ◌-◌, ◌*◌, ◌≤◌, ◌<◌}
 use native.Mathlib.Omega.{arith}
 use native.Mathlib.Numerals.{add-one}
 use lib.ListN.{length, get_or, take, drop, length-drop}
@@ -11,7 +11,7 @@ use lib.Seq.{sets, length-take-le}
 use Rattle.std.proofs.lemmas.List.{get_or-take, get_or-drop}
 use Rattle.base.specs.declared.writer.Writer.{Writer}
 use Rattle.base.specs.{Words.fours, Words.byte, Code.Wrote}
-use Rattle.base.proofs.{Fours.fours_length, Fours.fours_at, PutLaws.wrote_none, PutLaws.wrote_then}
+use Rattle.base.proofs.{Fours.fours_alike, Fours.fours_length, Fours.fours_at, PutLaws.wrote_none, PutLaws.wrote_then}
 use Rattle.term.specs.Term.{Term}
 use Rattle.submission.specs.Record.{terms, second_for, term, InKnowledge}
 use Rattle.submission.specs.Code.{TableRead}
@@ -56,12 +56,6 @@ module _ {s : List ℕ} {marks : Marks} {chosen : List ℕ} {i : ℕ} (h : HaveS
 
   pub the_step : {a : Step} → Some a ≡ step_by s (get_or chosen i 0) (mark_of marks (get_or chosen i 0)) → a ≡ concluding_step s marks (get_or chosen i 0)
   the_step f = same_some (f ∙ step_is (h.concluded i l))
-
--- records that are alike
-alike : (f g : ℕ → List ℕ) (n : ℕ) → ((i : ℕ) → i < n → f i ≡ g i) → fours f n ≡ fours g n
-unfolding fours
-alike f g zero h = refl
-alike f g (suc n) h = rw (alike f g n (λ i l. h i (omega arith)), h n (omega arith))
 
 -- each of the chosen terms alone has a step
 pub part_steps : {s : List ℕ} {marks : Marks} {chosen : List ℕ} {from : ℕ} → ChosenSteps s marks chosen from → HaveSteps s marks (take (length chosen - from) (drop from chosen))
@@ -177,5 +171,5 @@ module _ {s : List ℕ} {marks : Marks} {chosen : List ℕ} {t from : ℕ} (v : 
   -- the chosen terms alone
   pub chosen_deduction : (part : List ℕ) → length part ≡ 256 - from → ((i : ℕ) → i < 256 - from → get_or part i 0 ≡ get_or chosen (from + i) 0) → Deduction s t (length part) (steps_bytes s marks part)
   chosen_deduction part e f =
-      let g : steps_bytes s marks part ≡ l = ap (first_steps s marks part) e ∙ alike _ _ (256 - from) (λ i b. ap (λ n. step_bytes (concluding_step s marks n)) (f i b)) in
+      let g : steps_bytes s marks part ≡ l = ap (first_steps s marks part) e ∙ fours_alike _ _ (256 - from) (λ i b. ap (λ n. step_bytes (concluding_step s marks n)) (f i b)) in
       subst (λ n. Deduction s t n (steps_bytes s marks part)) (sym e) (subst (Deduction s t (256 - from)) (sym g) chosen_shown)

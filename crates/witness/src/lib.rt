@@ -13,7 +13,7 @@ ghost use Rattle.witness.specs.Code.{answer_shown};
 mod marked;
 
 use base::{Fault, Refusal};
-use deduction::Openings;
+use deduction::{Openings, Worklist};
 use marked::Marked;
 use submission::Table;
 
@@ -24,7 +24,8 @@ fn show(openings: &Openings, t: u8, page: &mut [u8]) -> Option<u16>
     ensures { DeductionWritten (λ a. answer_shown result ≡ a) openings.now.table.bytes.now t page.old page.new }
 {
     let start = deduction::knowledge_marks(openings.table.bytes);
-    let work = deduction::reach_all(openings, &start);
+    let mut work = Worklist::new();
+    deduction::reach_all(openings, &start, &mut work);
     let mark = work.marks[usize::from(t)];
     if mark.is_none() {
         return None;
@@ -46,7 +47,8 @@ pub fn deduction(s: &[u8], t: u8, page: &mut [u8]) -> Result<u16, Refusal>
     let table = Table::read(s)?;
     table.check_term(t)?;
     Fault::ShortSheet.at(1000).when(page.len() < 1000)?;
-    let openings = Openings::of(table);
+    let mut inverses = [None; 256];
+    let openings = Openings::of(table, &mut inverses);
     let Some(count) = show(&openings, t, page) else {
         return Ok(0);
     };

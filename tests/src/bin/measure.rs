@@ -33,6 +33,9 @@ const NO_CALL: u32 = u32::MAX;
 /// The counts of terms for which a shape's cost is compared.
 const GROWING: [usize; 5] = [25, 50, 100, 200, 250];
 
+/// The kinds of keys that have an inverse.
+const KEYS: [Kind; 2] = [Kind::Public, Kind::Private];
+
 /// An example of about twenty terms.
 const TYPICAL: &str = "003-needham-schroeder-kas";
 
@@ -100,6 +103,10 @@ fn submissions() -> Vec<(String, Vec<u8>)> {
             "250 atoms with one low byte".to_string(),
             shapes::atoms(&[Kind::Plain], Naming::OneLowByte).submission(),
         ),
+        (
+            "247 keys with one low byte, no pair".to_string(),
+            shapes::keys_beside(&KEYS, Naming::OneLowByte).submission(),
+        ),
     ];
     [submissions, chains()].concat()
 }
@@ -133,7 +140,7 @@ fn chains() -> Vec<(String, Vec<u8>)> {
     for (word, order) in Order::ALL {
         chains.push((
             format!("76 private keys, {word}"),
-            shapes::private_key_chain(76, order).submission(),
+            shapes::inverse_key_chain(Kind::Private, 76, order).submission(),
         ));
         chains.push((
             format!("52 plain keys, 75 locked, {word}"),
@@ -155,7 +162,7 @@ fn chains() -> Vec<(String, Vec<u8>)> {
 /// that nobody knows. The parts of a shape have the same proportions.
 fn growing() -> Vec<(String, Vec<u8>)> {
     let shapes: [(&str, fn(usize) -> Bodies); 4] = [
-        ("private keys", |links| shapes::private_key_chain(links, Order::Rising)),
+        ("private keys", |links| shapes::inverse_key_chain(Kind::Private, links, Order::Rising)),
         ("plain keys, locked", |links| {
             shapes::plain_key_chain(links, links * 75 / 52, Order::Rising)
         }),
@@ -178,15 +185,18 @@ fn growing() -> Vec<(String, Vec<u8>)> {
 
 /// Submissions to find the inverses of.
 fn key_tables() -> Vec<(&'static str, Vec<u8>)> {
-    let key_kinds = [Kind::Public, Kind::Private];
     let atoms = |kinds: &[Kind], naming| shapes::atoms(kinds, naming).submission();
     vec![
         ("M1", examples::submission("M1")),
         ("typical (Needham-Schroeder)", examples::submission(TYPICAL)),
         ("largest accepted", shapes::largest().submission()),
-        ("125 pairs of keys", atoms(&key_kinds, Naming::BothBytes)),
-        ("125 pairs of keys with one low byte", atoms(&key_kinds, Naming::OneLowByte)),
+        ("125 pairs of keys", atoms(&KEYS, Naming::BothBytes)),
+        ("125 pairs of keys with one low byte", atoms(&KEYS, Naming::OneLowByte)),
         ("250 public keys with one low byte", atoms(&[Kind::Public], Naming::OneLowByte)),
+        (
+            "247 keys with one low byte, no pair",
+            shapes::keys_beside(&KEYS, Naming::OneLowByte).submission(),
+        ),
     ]
 }
 

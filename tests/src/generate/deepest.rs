@@ -1,9 +1,9 @@
 //! The inputs on which the calls may need the most stack: terms nested as deep as the limit on terms
-//! allows, the longest derivations, and the longest programs.
+//! allows, the longest derivations, the longest deductions, and the longest programs.
 
 use super::names::Names;
 use super::program::{repeated, shortest};
-use super::shapes::{self, Naming, Nesting};
+use super::shapes::{self, Naming, Nesting, Order, Secrets};
 use super::{astray, claimed_term, farthest, Form, Input, Sent, Sheet, UNLISTED};
 use crate::bodies::Bodies;
 use crate::reference;
@@ -16,7 +16,8 @@ use crate::tables::{
 pub fn deepest() -> Vec<(String, Input)> {
     let mut titled: Vec<(String, Bodies)> = Vec::new();
     for (title, nesting) in Nesting::ALL {
-        titled.push((format!("{title} up to the limit"), shapes::tower(nesting)));
+        let tower = shapes::tower(nesting, Body::Terms.most());
+        titled.push((format!("{title} up to the limit"), tower));
         titled.push((format!("{title} over a known atom"), shapes::nested(nesting, true)));
         titled.push((format!("{title} over a hidden atom"), shapes::nested(nesting, false)));
     }
@@ -41,7 +42,43 @@ pub fn deepest() -> Vec<(String, Input)> {
             titled.push((title, shapes::largest_deducible(way, is_entry)));
         }
     }
+    titled.extend(longest_deductions());
     titled.into_iter().map(|(title, bodies)| (title, input(&bodies))).collect()
+}
+
+/// Terms to which as many steps lead as can, or as a derivation has at most; and the longest chains of
+/// messages of which each opened one gives the key of the next.
+fn longest_deductions() -> Vec<(String, Bodies)> {
+    let mut titled = Vec::new();
+    let accepted = Body::Derivation.most() + 1;
+    for (title, nesting) in Nesting::ALL {
+        titled.push((format!("{title}, 128 steps"), shapes::tower(nesting, accepted)));
+    }
+    for kind in Kind::atoms() {
+        for terms in [accepted, Body::Terms.most()] {
+            let title = format!("{} atom in pairs of pairs, {} steps", kind.word(), terms - 1);
+            titled.push((title, shapes::tower_known(kind, terms)));
+        }
+    }
+    for (word, order) in Order::ALL {
+        for (opener, _) in Kind::inverses() {
+            let chain = shapes::inverse_key_chain(opener, 76, order);
+            titled.push((format!("chain of {} keys, {word}", opener.word()), chain));
+        }
+        titled
+            .push((format!("chain of plain keys, {word}"), shapes::plain_key_chain(81, 0, order)));
+        for (title, secrets) in Secrets::ALL {
+            let title = format!("chain of keys that are hashes {title}, {word}");
+            titled.push((title, shapes::hash_key_chain(secrets, 76, 1, order)));
+        }
+        let chain = shapes::hash_key_chain(Secrets::Hashes, 102, 0, order);
+        titled.push((format!("chain of hashes as keys, {word}"), chain));
+    }
+    for (depth, links) in [(0, 82), (1, 61), (2, 49)] {
+        let title = format!("nested messages, their keys {depth} hashes of a secret");
+        titled.push((title, shapes::nested_hash_keys(links, depth)));
+    }
+    titled
 }
 
 /// Asks for the last three terms, of which one is the deepest, for the first, for one too many, and

@@ -18,7 +18,7 @@ mod table;
 
 use crate::bodies::{self, Bodies};
 use crate::reference::{self, contents};
-use crate::tables::{program_length, Body, Way, LONGEST_PROGRAM};
+use crate::tables::{program_length, Body, Kind, Way, LONGEST_PROGRAM};
 use names::Names;
 use program::Registers;
 use protocol::{protocol, Size};
@@ -31,7 +31,7 @@ pub use limits::padded;
 pub use program::{repeated, shortest};
 pub use sent::{astray, Sent};
 pub use sheet::{farthest, Sheet};
-pub use steps::premises;
+pub use steps::{around, premises};
 pub use table::Table;
 
 /// What one round of the comparison uses.
@@ -187,7 +187,10 @@ impl Source {
         match self.random.below(9) {
             0 => shapes::doubling_known(size),
             1 => shapes::doubling_asked(size),
-            2 => shapes::private_key_chain(size / 4, order),
+            2 => {
+                let (opener, _) = self.random.pick(&Kind::inverses());
+                shapes::inverse_key_chain(opener, size / 4, order)
+            }
             3 => shapes::plain_key_chain(size / 5, self.random.below(70), order),
             4 => shapes::nested_pairs(size / 2, self.random.below(size / 4), size / 5),
             5 => {

@@ -1,4 +1,4 @@
-//! Submissions of regular shape that make much work. All of them but the tower and the atoms pass
+//! Submissions of regular shape that make much work. All of them but the towers and the atoms pass
 //! checks 1 to 7, and the search for what is deducible goes on until nothing more opens.
 
 use super::limits::padded;
@@ -143,6 +143,17 @@ pub fn atoms(kinds: &[Kind], naming: Naming) -> Bodies {
     Bodies { terms: table.records, ..Bodies::default() }
 }
 
+/// Keys of different names up to the limit on terms, beside what verifies the guess: as many of the first
+/// kind as of the next. Nobody knows them.
+pub fn keys_beside(kinds: &[Kind], naming: Naming) -> Bodies {
+    let mut frame = Frame::new();
+    let most = Body::Terms.most();
+    for index in frame.table.records.len()..most {
+        frame.table.atom(kinds[index * kinds.len() / most], naming.name(index));
+    }
+    frame.finish()
+}
+
 /// Of the shapes with 1 part, with 2 and so on, the largest that is below so many terms, with atoms
 /// that nobody knows up to these.
 pub fn filled(terms: usize, shape: impl Fn(usize) -> Bodies) -> Bodies {
@@ -256,12 +267,21 @@ impl Nesting {
     }
 }
 
-/// The deepest term that can be listed, all of one known atom. No step, so check 5 refuses it.
-pub fn tower(nesting: Nesting) -> Bodies {
+/// The deepest of so many terms, all of one known atom. No step, so check 5 refuses it.
+pub fn tower(nesting: Nesting, terms: usize) -> Bodies {
     let mut table = Table::default();
     let atom = table.atom(nesting.beside(), 0);
-    nesting.nest(&mut table, atom, atom, Body::Terms.most());
+    nesting.nest(&mut table, atom, atom, terms);
     Bodies { terms: table.records, knowledge: vec![atom], ..Bodies::default() }
+}
+
+/// An atom of this kind, and so many terms with the pairs of which each holds the former twice. The last
+/// is known, so that all steps take apart. None is listed, so check 5 refuses it.
+pub fn tower_known(atom: Kind, terms: usize) -> Bodies {
+    let mut table = Table::default();
+    let atom = table.atom(atom, 0);
+    let pairs = Nesting::DoublingPairs.nest(&mut table, atom, atom, terms);
+    Bodies { terms: table.records, knowledge: vec![pairs[pairs.len() - 1]], ..Bodies::default() }
 }
 
 /// A deep term that is hidden under the guess; the last of two steps hashes it, and the hash is
@@ -342,13 +362,14 @@ impl Order {
         [("rising", Order::Rising), ("falling", Order::Falling)];
 }
 
-/// Encryptions under public keys. Each hides the private key that opens the next; the first private
-/// key is known.
-pub fn private_key_chain(links: usize, order: Order) -> Bodies {
+/// Encryptions under keys that have an inverse. Each hides the key of this kind that opens the next; the
+/// first is known.
+pub fn inverse_key_chain(opener: Kind, links: usize, order: Order) -> Bodies {
     let mut frame = Frame::new();
-    let keys: Vec<u8> = (0..=links).map(|index| frame.atom(Kind::Private, index)).collect();
+    let lock = opener.inverse().expect("a key with an inverse");
+    let keys: Vec<u8> = (0..=links).map(|index| frame.atom(opener, index)).collect();
     let links: Vec<[u8; 2]> =
-        (0..links).map(|link| [keys[link + 1], frame.atom(Kind::Public, link)]).collect();
+        (0..links).map(|link| [keys[link + 1], frame.atom(lock, link)]).collect();
     let messages = chain(&mut frame, Kind::Enca, links, order);
     frame.know([vec![keys[0]], messages].concat());
     frame.finish()

@@ -39,9 +39,9 @@ impl Deduction {
         }
     }
 
-    /// Whether the term is deducible: it is known, or its parts can be built.
+    /// Whether the term is deducible.
     pub fn reaches(&self, term: &Term) -> bool {
-        self.builds(term, &mut HashMap::new())
+        can_be_built(term, |term| self.known.contains(term))
     }
 
     /// What can be taken out of a known term.
@@ -66,18 +66,23 @@ impl Deduction {
         let is_shut = operands[1].kind().is_some_and(|kind| self.shut.contains(&kind));
         !is_shut && opening.is_some_and(|key| self.reaches(&key))
     }
+}
 
-    /// As `reaches`, with the answers found so far.
-    fn builds(&self, term: &Term, found: &mut HashMap<Term, bool>) -> bool {
-        if self.known.contains(term) {
-            return true;
-        }
-        if let Some(&answer) = found.get(term) {
-            return answer;
-        }
-        let parts = term.parts();
-        let answer = !parts.is_empty() && parts.iter().all(|part| self.builds(part, found));
-        found.insert(term.clone(), answer);
-        answer
+/// Whether the term can be built: it is known, or its parts can be built. An atom has no parts.
+pub fn can_be_built(term: &Term, is_known: impl Fn(&Term) -> bool) -> bool {
+    builds(term, &is_known, &mut HashMap::new())
+}
+
+/// The same, with the answers found so far.
+fn builds(term: &Term, is_known: &impl Fn(&Term) -> bool, found: &mut HashMap<Term, bool>) -> bool {
+    if is_known(term) {
+        return true;
     }
+    if let Some(&answer) = found.get(term) {
+        return answer;
+    }
+    let parts = term.parts();
+    let answer = !parts.is_empty() && parts.iter().all(|part| builds(part, is_known, found));
+    found.insert(term.clone(), answer);
+    answer
 }

@@ -2,6 +2,7 @@
 
 use std::collections::{HashMap, HashSet};
 
+use super::deduction::can_be_built;
 use super::derivation::Step;
 use super::term::{Operands, Store, Term};
 use crate::tables::Opener;
@@ -40,7 +41,7 @@ impl Reached {
 
     /// Whether the term is deducible.
     pub fn gives(&self, term: &Term) -> bool {
-        self.builds(term, &mut HashMap::new())
+        can_be_built(term, |term| self.places.contains_key(term))
     }
 
     /// Steps from the knowledge to a term that is deducible.
@@ -85,20 +86,6 @@ impl Reached {
             }
         }
         is_done
-    }
-
-    /// As `gives`, with the answers found so far.
-    fn builds(&self, term: &Term, found: &mut HashMap<Term, bool>) -> bool {
-        if self.places.contains_key(term) {
-            return true;
-        }
-        if let Some(&answer) = found.get(term) {
-            return answer;
-        }
-        let parts = term.parts();
-        let answer = !parts.is_empty() && parts.iter().all(|part| self.builds(part, found));
-        found.insert(term.clone(), answer);
-        answer
     }
 }
 

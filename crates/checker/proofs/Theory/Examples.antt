@@ -14,7 +14,7 @@ use Rattle.term.specs.Reduce.{op, cancelled, parted, paired}
 use Rattle.term.specs.Computed.{match?, is_key?, is_part, rule_takes_apart}
 use Rattle.term.specs.Number.{shape_of, head_of, word_of, has_one}
 use Rattle.base.specs.Answer.{Answer, done, refused, page_after}
-use Rattle.submission.specs.Record.{start_of, second_at}
+use Rattle.submission.specs.Record.{start_of, second_for}
 use Rattle.submission.specs.{Record.record_at, Record.term, Record.guessed, Computed.are_inverse}
 use Rattle.submission.specs.Check.{way_of}
 use Rattle.base.specs.Computed.{any}
@@ -440,7 +440,7 @@ want e = e.wanted
 
 -- the one computed fact
 pub table_right : map got table ≡ map want table
-unfolding first first_from any grow decoded op cancelled parted paired match? is_key? head_of word_of has_one rule_takes_apart start_of bad_contents shape_of record_at term are_inverse way_of bad_term bad_knowledge good_claim checks1to4 checks1to5 register_term second_at bad_step unfounded register_counts check_steps built_within round rounds entry_marks is_deducible relation_of instruction_bytes bytes_of instruction_at bad_instruction bad_test bad_program guessed initial executed registers signals signal is_part is_known_part is_stale is_stale_name run_answer reachable same_premises undoes_step undone entry_found is_given checks_before_page check_answer lowest entry_given instruction program digits step_line test_line step_lines answer_text verdict_text Dec.and ℕ_discrete
+unfolding first first_from any grow decoded op cancelled parted paired match? is_key? head_of word_of has_one rule_takes_apart start_of bad_contents shape_of record_at term are_inverse way_of bad_term bad_knowledge good_claim checks1to4 checks1to5 register_term second_for bad_step unfounded register_counts check_steps built_within round rounds entry_marks is_deducible relation_of instruction_bytes bytes_of instruction_at bad_instruction bad_test bad_program guessed initial executed registers signals signal is_part is_known_part is_stale is_stale_name run_answer reachable same_premises undoes_step undone entry_found is_given checks_before_page check_answer lowest entry_given instruction program digits step_line test_line step_lines answer_text verdict_text Dec.and ℕ_discrete
 table_right = refl
 
 -- what it says of each example

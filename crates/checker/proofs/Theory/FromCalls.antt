@@ -37,14 +37,11 @@ use Rattle.conditions.specs.Computed.{check_answer}
 use Rattle.readback.specs.{ReadBack.derivation_read, ReadBack.claim_read, ReadBack.bodies_read, ReadBack.bodies_length, ReadBack.read_back_rows, Computed.read_back_answer, Promise.replaced, Promise.StepRight, Calls.BodiesWritten}
 use Rattle.readback.proofs.Theory.{ReadBackAnswer.read_back_exact, RoundTrip.read_back_promise}
 use Rattle.derivation.specs.Step.{rows6and7}
-use Rattle.checker.specs.{Demand.Demand1, Shown.DeductionDemand, Shown.with_steps}
+use Rattle.checker.specs.{Demand.Demand1, Shown.with_steps}
 use Rattle.checker.proofs.Theory.ShownLaws.{shown_promise}
 
 pub demand_1 : Demand1
-demand_1 = record { check = check_exact; deducible = deducible_exact; run = run_exact; write = write_exact; inverses = inverses_exact; read_back = read_back_exact }
-
-pub demand_1_deduction : DeductionDemand
-demand_1_deduction = deduction_exact
+demand_1 = record { check = check_exact; deducible = deducible_exact; deduction = deduction_exact; run = run_exact; write = write_exact; inverses = inverses_exact; read_back = read_back_exact }
 
 -- a verdict and an answer tell what they stand for
 same_verdict : (v u : Verdict) → verdict_answer v ≡ verdict_answer u → v ≡ u

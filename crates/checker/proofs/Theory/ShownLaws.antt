@@ -11,7 +11,7 @@ use Rattle.submission.specs.{Record.count, Record.start, Record.terms, Record.en
 use Rattle.submission.proofs.Theory.{ListedTerms.verifying_below, ReadingRows.claimed_clear, ReadingRows.first_four}
 use Rattle.form.proofs.Theory.RoundTrip.{body_length}
 use Rattle.derivation.specs.Step.{concluded, Premise, RecordFits, StepFits, Known, rows6and7}
-use Rattle.derivation.proofs.Theory.StepMeaning.{record_step, second_listed}
+use Rattle.derivation.proofs.Theory.StepMeaning.{second_listed}
 use Rattle.deduction.specs.Deduce.{deducible_rows}
 use Rattle.witness.specs.{Deduction.rule_in, Deduction.p_in, Deduction.q_in, Deduction.conclusion_in, Deduction.PremiseIn, Deduction.KnownBefore, Deduction.Deduction, Deduction.deduction_rows, Computed.deduction_answer}
 use Rattle.witness.proofs.Theory.DeductionAnswer.{yes_exact, no_exact}
@@ -69,12 +69,9 @@ module _ (s : List ℕ) (b : Bytes s) (clear : Clear (rows1to4 s)) (t n : ℕ) (
   }
 
   step_fits : (i : ℕ) → i < n → StepFits r i
-  step_fits i m =
-      let w : RecordFits r (rule_at r i) (p_at r i) (q_at r i) (conclusion_at r i) = rw (rule_is i m, p_is i m, q_is i m, conclusion_is i m) (fits_over (rule_in l i) (p_in l i) (q_in l i) (conclusion_in l i) (d.fits i m)) in
-      record_step w
+  step_fits i m = rw (rule_is i m, p_is i m, q_is i m, conclusion_is i m) (fits_over (rule_in l i) (p_in l i) (q_in l i) (conclusion_in l i) (d.fits i m))
 
   second_alike : (i : ℕ) → i < n → second_at r i ≡ second_for (rule_in l i) (p_in l i) (q_in l i)
-  unfolding second_at second_for
   second_alike i m = rw (rule_is i m, p_is i m, q_is i m)
 
   premise_in : (i : ℕ) → i < n → (x : Term) → Premise r i x → PremiseIn s l i x

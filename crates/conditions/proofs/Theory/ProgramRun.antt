@@ -13,7 +13,7 @@ use Rattle.base.proofs.Says.{says_true, says_any}
 use Rattle.term.specs.Term.{Term, single, void}
 use Rattle.term.specs.Reduce.{op}
 use Rattle.term.specs.Number.{head_of, has_one}
-use Rattle.submission.specs.{Record.entries, Record.steps, Record.entry_at, Record.rule_at, Record.p_at, Record.q_at, Record.guess, Record.term, Record.second_at, Record.guessed, Check.claims}
+use Rattle.submission.specs.{Record.entries, Record.steps, Record.entry_at, Record.rule_at, Record.p_at, Record.q_at, Record.guess, Record.term, Record.second_for, Record.second_at, Record.guessed, Check.claims}
 use Rattle.derivation.specs.{Step.guess_counts, Step.register_term, Step.register_counts, Step.holds_term, Step.written, Computed.is_known}
 use Rattle.derivation.proofs.Theory.RegisterTerms.{entry_register, guess_register, result_register, counts_guess, says_holds}
 use Rattle.program.specs.Program.{bytes_of, program_length, instruction_at, operand}
@@ -54,7 +54,7 @@ module _ (s : List ℕ) where
       instruction_back (program s) (instruction s i) i (omega (arith, program_steps)) ∙ listed_at (instruction s) i (steps s) (instruction s i) l
 
   pub operand_of : (i : ℕ) → operand (instruction s i) ≡ lowest s (second_at s i)
-  unfolding instruction second_at
+  unfolding instruction second_for
   operand_of i = go (has_one (rule_at s i))
     where
       go : (b : Bool) → cond b (lowest s (p_at s i)) (cond b 0 (lowest s (q_at s i))) ≡ lowest s (cond b (p_at s i) (q_at s i))
@@ -77,7 +77,7 @@ module _ (s : List ℕ) where
 
     -- a rule with one operand reads one register twice
     pub same_operand : (i : ℕ) → single (head_of (rule_at s i)) ≡ true → value i (lowest s (p_at s i)) ≡ value i (lowest s (second_at s i))
-    unfolding second_at has_one
+    unfolding second_for has_one
     same_operand i e = rw e
 
     -- "Registers 0 to K-1 hold the knowledge in order, register K the guess, K+1+i the result of step i":

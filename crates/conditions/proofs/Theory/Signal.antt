@@ -26,7 +26,7 @@ use Rattle.submission.specs.{Record.entries, Record.steps, Record.entry_at, Reco
 use Rattle.submission.specs.Check.{Way, another_step, at_start, inverse_key, guess_derived, inverse_derived, way_of, Target, the_guess, its_inverse, verifier, derived, claims_in, claims, knowledge_step, given_register, row}
 use Rattle.submission.proofs.Theory.{ListedTerms.Claimed, ListedTerms.claimed_fits, ListedTerms.guess_key, ReadingRows.claimed_clear}
 use Rattle.derivation.specs.{Step.written, Computed.is_known}
-use Rattle.submission.specs.Record.{second_at}
+use Rattle.submission.specs.Record.{second_for, second_at}
 use Rattle.derivation.proofs.Theory.{RegisterTerms.result_register, RegisterTerms.counts_other, KnownPremises.first_known, KnownPremises.second_known}
 use Rattle.program.specs.Program.{row_of, relation_of, bytes_of}
 use Rattle.machine.specs.Run.{holds as relates, signals, signal}
@@ -100,7 +100,7 @@ module _ (s : List ℕ) (bytes : Bytes s) (w : WellFormed s) (c : FiveConditions
 
   -- ---- check 13
   instruction_good : (i : ℕ) → i < steps s → bad_instruction (written s i) (instruction s i) ≡ false
-  unfolding bad_instruction instruction second_at
+  unfolding bad_instruction instruction second_for
   instruction_good i l =
       let (p, q) = premises_known i l in
       rw (lt-ltb (rule_at s i) rules (w.shaped i l).rule_below, lt-ltb (lowest s (p_at s i)) (written s i) (lowest_known s i (p_at s i) (omega arith) p).2)

@@ -131,34 +131,19 @@ says_bad s i =
     (says_and _ _ (says_ltb (rule_at s i) rules) (says_and _ _ (says_ltb (p_at s i) (terms s)) (says_and _ _ (says_ltb (q_at s i) (terms s))
     (says_and _ _ (says_ltb (conclusion_at s i) (terms s)) (says_follows s (head_of (rule_at s i)) (p_at s i) (q_at s i) (conclusion_at s i))))))
 
--- step i, as a record
-pub fits_record : {s : List ℕ} {i : ℕ} → StepFits s i → RecordFits s (rule_at s i) (p_at s i) (q_at s i) (conclusion_at s i)
-unfolding second_at second_for
-fits_record w =
-    record { rule_below = w.rule_below; p_below = w.p_below; q_below = w.q_below; conclusion_below = w.conclusion_below; unused = w.unused; step = w.step }
-
-pub record_step : {s : List ℕ} {i : ℕ} → RecordFits s (rule_at s i) (p_at s i) (q_at s i) (conclusion_at s i) → StepFits s i
-unfolding second_at second_for
-record_step w =
-    record { rule_below = w.rule_below; p_below = w.p_below; q_below = w.q_below; conclusion_below = w.conclusion_below; unused = w.unused; step = w.step }
-
 pub fits_iff : {s : List ℕ} → Listed s → (i : ℕ) → (bad_step s i ≡ false) ↔ StepFits s i
 fits_iff {s} z i = (
-  λ e. let (lr, (lp, (lq, (lc, f)))) = (says_bad s i).0 e in record_step (record_fits z _ _ _ _ lr lp lq lc f),
-  λ w. (says_bad s i).1 (w.rule_below, (w.p_below, (w.q_below, (w.conclusion_below, fits_followed z _ _ _ _ (fits_record w))))),
+  λ e. let (lr, (lp, (lq, (lc, f)))) = (says_bad s i).0 e in record_fits z _ _ _ _ lr lp lq lc f,
+  λ w. (says_bad s i).1 (w.rule_below, (w.p_below, (w.q_below, (w.conclusion_below, fits_followed z _ _ _ _ w)))),
 )
 
 picked_below : (b : Bool) (p q n : ℕ) → p < n → q < n → cond b p q < n
 picked_below true p q n l m = l
 picked_below false p q n l m = m
 
-pub second_listed : {s : List ℕ} {i : ℕ} → StepFits s i → second_at s i < terms s
-unfolding second_at
-second_listed w = picked_below (has_one _) _ _ _ w.p_below w.q_below
-
-pub record_second : {s : List ℕ} {r p q c : ℕ} → RecordFits s r p q c → second_for r p q < terms s
+pub second_listed : {s : List ℕ} {r p q c : ℕ} → RecordFits s r p q c → second_for r p q < terms s
 unfolding second_for
-record_second w = picked_below (has_one _) _ _ _ w.p_below w.q_below
+second_listed w = picked_below (has_one _) _ _ _ w.p_below w.q_below
 
 -- ---- check 7
 -- "A premise is known if it is in the knowledge, is the guess, or was concluded by an earlier step", of numbers and of terms

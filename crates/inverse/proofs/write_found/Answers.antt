@@ -14,11 +14,11 @@ loop-inverse-init c = writing_none
 
 pub loop-inverse-preserved : goal.loop-inverse-preserved
 loop-inverse-preserved c =
-    writing_more c.args.table.read (c.from.ensures ∙ c.terms-n.ensures) c.find-found.ensures c.loop-inverse.invariant c.loop-inverse-test.true c.unwrap_or.ensures c.put.ensures
+    writing_more c.args.table.read (c.from.ensures ∙ c.terms-n.ensures) c.find.ensures c.loop-inverse.invariant c.loop-inverse-test.true c.unwrap_or.ensures c.put.ensures
 
 pub returns : goal.returns
 returns c =
     let read = c.args.table.read in
-    let all = first_terms read (c.from.ensures ∙ c.terms-n.ensures) c.find-found.ensures in
+    let all = first_terms read (c.from.ensures ∙ c.terms-n.ensures) c.find.ensures in
     page_found _ read (c.from-needed.ensures ∙ c.terms-n.ensures) c.check_room.ensures c.in_ok-check_room.was c.new-writer.ensures.now c.new-writer.ensures.at
     c.loop-inverse.invariant all c.loop-inverse-test.false (search rules)

@@ -6,7 +6,7 @@ use mathlib.Core.List.{List, [], ◌∷◌, ◌++◌, map}
 use Prim.Native.Nat.{ℕ, ◌+◌}
 use native.Mathlib.Decide.{ℕ_discrete}
 use lib.ListN.{length, replicate}
-use Rattle.base.specs.Words.{first, first_from, grow}
+use Rattle.base.specs.Words.{first, first_from, fours, grow}
 use Rattle.base.specs.Answer.{Answer, done, refused, page_after}
 use Rattle.base.specs.Computed.{any}
 use Rattle.term.specs.Term.{decoded}
@@ -20,7 +20,7 @@ use Rattle.submission.specs.Computed.{bad_contents, bad_term, bad_knowledge, goo
 use Rattle.program.specs.Program.{relation_of, instruction_at}
 use Rattle.program.specs.Computed.{bad_instruction, bad_test, bad_program}
 use Rattle.machine.specs.Run.{initial, executed, registers, held}
-use Rattle.readback.specs.ReadBack.{number, steps_read, bodies_read}
+use Rattle.readback.specs.ReadBack.{number, bodies_read}
 use Rattle.readback.specs.Computed.{off_table, read_back_answer}
 
 -- what is seen: the answer, and the page afterwards
@@ -128,5 +128,5 @@ table =
     ∷ []
 
 pub table_right : map got table ≡ map (λ e. e.wanted) table
-unfolding read_back_answer off_table number steps_read held registers initial executed any first first_from grow decoded op cancelled parted paired match? is_key? head_of has_one submission_of contents start_of shape_of record_at term guessed way_of bad_contents bad_term bad_knowledge good_claim checks1to4 checks1to5 relation_of instruction_at bad_instruction bad_test bad_program Dec.and ℕ_discrete
+unfolding read_back_answer off_table number fours held registers initial executed any first first_from grow decoded op cancelled parted paired match? is_key? head_of has_one submission_of contents start_of shape_of record_at term guessed way_of bad_contents bad_term bad_knowledge good_claim checks1to4 checks1to5 relation_of instruction_at bad_instruction bad_test bad_program Dec.and ℕ_discrete
 table_right = refl

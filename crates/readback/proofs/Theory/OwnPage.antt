@@ -10,11 +10,11 @@ use lib.ListN.{length, take, drop, length-drop}
 use lib.Seq.{take-add, get_or-drop}
 use borrow.Author.Tests.{lt-ltb, le-ltb, eq-eqb, ne_eqb}
 use lib.Dec.{eqb, ltb}
-use Rattle.base.specs.Words.{Bytes, byte}
+use Rattle.base.specs.Words.{Bytes, byte, fours}
 use Rattle.base.specs.Answer.{Clear}
 use Rattle.base.proofs.Order.{lt_or_ge}
 use Rattle.term.specs.Number.{has_one}
-use Rattle.submission.specs.Record.{count, start, start_of, terms, entries, steps, rule_at, p_at, q_at, second_at, conclusion_at, guess, verifying, way_at, companion, entry_at, name_at, term}
+use Rattle.submission.specs.Record.{count, start, start_of, terms, entries, steps, rule_at, p_at, q_at, second_for, conclusion_at, guess, verifying, way_at, companion, entry_at, name_at, term}
 use Rattle.submission.specs.Body.{body_at}
 use Rattle.submission.specs.Check.{Way, another_step, at_start, inverse_key, guess_derived, inverse_derived, way_of, Target, the_guess, its_inverse, claims_in, InRange, knowledge_step, given_register, row, rows1and2}
 use Rattle.submission.proofs.Theory.{ListedTerms.Claimed, ListedTerms.way_letter, ReadingRows.claimed_clear, ReadingRows.contents_fit, ReadingRows.first_two}
@@ -27,9 +27,9 @@ use Rattle.machine.proofs.Theory.RunRegisters.{register_entry, register_guess}
 use Rattle.conditions.specs.{Calls.lowest, Calls.entry_given, Calls.named, Calls.instruction, Calls.program, Calls.test_for, Condition.WellFormed, Condition.FiveConditions, Condition.Verified, Condition.Given, Condition.target, Condition.ClaimMet, Condition.SecondWay}
 use Rattle.conditions.proofs.Theory.ProgramRun.{lowest_known, program_steps, instruction_read, value}
 use Rattle.conditions.proofs.Theory.Signal.{premises_known, start_known, inverse_known, entry_gives, guess_right, right_result, right_lowest}
-use Rattle.readback.specs.ReadBack.{step_of, number, step_read, steps_read, derivation_read, way_read, verifying_read, companion_read, claim_read, NoClaim}
+use Rattle.readback.specs.ReadBack.{step_of, number, step_read, derivation_read, way_read, verifying_read, companion_read, claim_read, NoClaim}
 use Rattle.readback.specs.Computed.{off_table}
-use Rattle.readback.proofs.Theory.ReadBackAnswer.{number_is, listed_on}
+use Rattle.readback.proofs.Theory.ReadBackAnswer.{listed_number, listed_on}
 
 -- ---- records of four bytes
 -- the first four entries of a list
@@ -88,10 +88,10 @@ module _ (s : List ℕ) (bytes : Bytes s) (w : WellFormed s) (c₀ : FiveConditi
 
   -- ---- the derivation
   number_lowest : (i t : ℕ) → i ≤ steps s → t < terms s → is_known s i t ≡ true → number s P (lowest s t) ≡ t
-  number_lowest i t b l e = number_is claim.read P (lowest s t) t l (held_lowest i t b e)
+  number_lowest i t b l e = listed_number claim.read P (lowest s t) t l (held_lowest i t b e)
 
   own_second : (i : ℕ) → i < steps s → cond (has_one (rule_at s i)) 0 (number s P (cond (has_one (rule_at s i)) 0 (lowest s (q_at s i)))) ≡ q_at s i
-  unfolding second_at
+  unfolding second_for
   own_second i l = go (has_one (rule_at s i)) (w.shaped i l).unused (premises_known s bytes w c₀ i l).1
     where
       go : (b : Bool) → (b ≡ true → q_at s i ≡ 0) → is_known s i (cond b (p_at s i) (q_at s i)) ≡ true → cond b 0 (number s P (cond b 0 (lowest s (q_at s i)))) ≡ q_at s i
@@ -102,7 +102,7 @@ module _ (s : List ℕ) (bytes : Bytes s) (w : WellFormed s) (c₀ : FiveConditi
   unfolding instruction
   own_step i l =
       let (p, q) = premises_known s bytes w c₀ i l in
-      rw (instruction_read s i l, number_lowest i (p_at s i) (omega arith) (w.shaped i l).p_below p, own_second i l, number_is claim.read P (written s i) (conclusion_at s i) (w.shaped i l).conclusion_below (held_result i l))
+      rw (instruction_read s i l, number_lowest i (p_at s i) (omega arith) (w.shaped i l).p_below p, own_second i l, listed_number claim.read P (written s i) (conclusion_at s i) (w.shaped i l).conclusion_below (held_result i l))
 
   -- the bodies reach to the submission's end
   one_claim : count s 3 ≡ 1
@@ -124,8 +124,8 @@ module _ (s : List ℕ) (bytes : Bytes s) (w : WellFormed s) (c₀ : FiveConditi
   step_byte : (i j : ℕ) → byte steps_on (i + j) ≡ byte s (start s 2 + i + j)
   step_byte i j = get_or-drop (start s 2) s (i + j) 0 ∙ ap (byte s) (omega arith)
 
-  own_steps : (n : ℕ) → n ≤ steps s → steps_read s P n ≡ take (4 * n) steps_on
-  unfolding steps_read
+  own_steps : (n : ℕ) → n ≤ steps s → fours (step_read s P) n ≡ take (4 * n) steps_on
+  unfolding fours
   own_steps zero l = refl
   own_steps (suc n) l =
       let e : 4 * suc n ≡ 4 * n + 4 = omega arith in
@@ -134,7 +134,7 @@ module _ (s : List ℕ) (bytes : Bytes s) (w : WellFormed s) (c₀ : FiveConditi
       ∙ sym (ap (λ k. take k steps_on) e ∙ four_next steps_on (4 * n) b ∙ rw (get_or-drop (start s 2) s (4 * n) 0, step_byte (4 * n) 1, step_byte (4 * n) 2, step_byte (4 * n) 3))
 
   pub own_derivation : derivation_read s P ≡ body_at s 2
-  own_derivation = ap (steps_read s P) own_count ∙ own_steps (steps s) (omega arith)
+  own_derivation = ap (fours (step_read s P)) own_count ∙ own_steps (steps s) (omega arith)
 
   -- ---- the claim
   claim_bytes : body_at s 3 ≡ guess s ∷ verifying s ∷ way_at s ∷ companion s ∷ []

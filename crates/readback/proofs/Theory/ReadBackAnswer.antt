@@ -59,9 +59,9 @@ number_found s P r e =
     rw (f, number) (l, (says_number s P r n).0 t)
 
 -- is the only one
-pub number_is : {s : List ℕ} → Listed s → (P : List ℕ) (r n : ℕ) → n < terms s → held s P r ≡ term s n → number s P r ≡ n
+pub listed_number : {s : List ℕ} → Listed s → (P : List ℕ) (r n : ℕ) → n < terms s → held s P r ≡ term s n → number s P r ≡ n
 unfolding number
-number_is {s} z P r n l e =
+listed_number {s} z P r n l e =
     let (k, f, b, t) = first_found (holds_number s P r) (terms s) n l ((says_number s P r n).1 e) in
     rw (f, number) (z.same_number k n (omega arith) l (sym ((says_number s P r k).0 t) ∙ e))
 

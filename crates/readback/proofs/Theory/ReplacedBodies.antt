@@ -2,15 +2,15 @@
 use mathlib.Core.Path.{◌≡◌, refl, sym, ap, ap₂, ◌∙◌, subst}
 use mathlib.Core.Logic.{◌⊎◌, inl, inr, ⊎_elim}
 use mathlib.Core.Bool.{Bool, true, false, cond}
-use mathlib.Core.List.{List, [], ◌∷◌, ◌++◌}
-use Prim.Native.Nat.{ℕ, zero, suc, ◌+◌, ◌*◌, ◌≤◌, ◌<◌}
+use mathlib.Core.List.{List, [], ◌∷◌}
+use Prim.Native.Nat.{ℕ, ◌+◌, ◌*◌, ◌≤◌, ◌<◌}
 use native.Mathlib.Omega.{arith}
 use lib.ListN.{length, get_or, length-append}
-use Rattle.base.specs.{Words.fours, Words.byte, Words.Bytes, Answer.done, Answer.Clear, Answer.numbered}
+use Rattle.base.specs.{Words.byte, Words.Bytes, Answer.done, Answer.Clear, Answer.numbered}
 use Rattle.base.proofs.{Fours.fours_length, Fours.fours_at, Says.denies, Says.refutes, Says.each_of_four, RefusalLaws.passes_iff, RefusalLaws.clear_split}
 use Rattle.term.specs.{Term.Head, Term.Second, Term.absent, Term.anything, Term.key_for, Term.second, Term.Shape, Term.atomic, Term.compound, Term.is_key_for, Term.single, Term.void, Number.shape_of, Number.head_of, Number.has_one, Reduce.op, Step.Step, Code.Message}
 use Rattle.term.proofs.Reduce.{op_step}
-use Rattle.submission.specs.Record.{count, width, least, most, start, terms, entries, steps, kind_at, y_at, entry_at, rule_at, p_at, q_at, second_at, conclusion_at, guess, name_at, term}
+use Rattle.submission.specs.Record.{count, width, least, most, start, terms, entries, steps, kind_at, y_at, entry_at, rule_at, p_at, q_at, second_for, second_at, conclusion_at, guess, name_at, term}
 use Rattle.submission.specs.Body.{Bodies, bodies, body, records, body_at, submission_of}
 use Rattle.submission.specs.Check.{HasSecond, Shaped, BadTerm, rows1and2, rows1to4, rows1to5}
 use Rattle.submission.proofs.Theory.{ListedTerms.Listed, ListedTerms.listed, ListedTerms.Claimed, ReadingRows.tells_1_to_4, ReadingRows.claimed_clear, ReadingRows.first_four}
@@ -21,7 +21,7 @@ use Rattle.program.specs.{Program.Instruction, Program.instruction_at, Program.o
 use Rattle.program.proofs.Theory.Check13.{program_iff, operand_fits}
 use Rattle.machine.specs.Run.{registers, executed, held, program_rows}
 use Rattle.machine.proofs.Theory.RunRegisters.{register_kept, register_written}
-use Rattle.readback.specs.{ReadBack.number, ReadBack.step_read, ReadBack.steps_read, ReadBack.derivation_read, ReadBack.claim_read, ReadBack.bodies_read, ReadBack.bodies_length, ReadBack.read_back_rows, Computed.read_back_answer, Computed.off_table, Promise.replaced, Promise.SameStart, Promise.StepRight}
+use Rattle.readback.specs.{ReadBack.number, ReadBack.step_read, ReadBack.derivation_read, ReadBack.claim_read, ReadBack.bodies_read, ReadBack.bodies_length, ReadBack.read_back_rows, Computed.read_back_answer, Computed.off_table, Promise.replaced, Promise.SameStart, Promise.StepRight}
 use Rattle.readback.proofs.Theory.ReadBackAnswer.{says_off_table, later_rows, read_back_exact, number_found}
 use Rattle.readback.proofs.Theory.SameSubmissions.{body_byte, Agree, agree, term_alike}
 
@@ -42,16 +42,11 @@ module _ (b : Bodies) (n : ℕ → ℕ) (whole : (i : ℕ) → i < 4 → length 
       (((λ m q (_, (_, (i, l, ragged))). ragged (n i) (whole i l)), ((λ m q (_, (l, h)). limit q l h), ((λ m q (_, (_, l)). omega arith), tt))), refl))
 
 -- ---- the records of the steps
-pub steps_fours : (s P : List ℕ) (n : ℕ) → steps_read s P n ≡ fours (step_read s P) n
-unfolding steps_read fours
-steps_fours s P zero = refl
-steps_fours s P (suc n) = ap (λ l. l ++ step_read s P n) (steps_fours s P n)
-
-pub steps_length : (s P : List ℕ) (n : ℕ) → length (steps_read s P n) ≡ 4 * n
-steps_length s P n = ap length (steps_fours s P n) ∙ fours_length (step_read s P) (λ i. refl) n
+steps_length : (s P : List ℕ) → length (derivation_read s P) ≡ 4 * byte P 0
+steps_length s P = fours_length (step_read s P) (λ i. refl) (byte P 0)
 
 pub bodies_length_lem : (s P : List ℕ) → length (bodies_read s P) ≡ bodies_length (byte P 0)
-bodies_length_lem s P = simp length-append (omega (arith, steps_length s P (byte P 0)))
+bodies_length_lem s P = simp length-append (omega (arith, steps_length s P))
 
 -- ---- records that are good in one submission are good in another with the same terms
 module _ {r s : List ℕ} (a : Agree r s) where
@@ -169,7 +164,7 @@ module _ (s P : List ℕ) (bytes : Bytes s) (room n : ℕ) (read : read_back_ans
 
   over : Replacement s (derivation_read s P) (claim_read s P) r (byte P 0)
   over =
-      replacement s bytes (first_four s before.0) (derivation_read s P) (claim_read s P) (byte P 0) (steps_length s P (byte P 0)) fits.few refl
+      replacement s bytes (first_four s before.0) (derivation_read s P) (claim_read s P) (byte P 0) (steps_length s P) fits.few refl
 
   pub same_start : SameStart r s
   same_start = record {
@@ -199,7 +194,7 @@ module _ (s P : List ℕ) (bytes : Bytes s) (room n : ℕ) (read : read_back_ans
     head = head_of x.rule
 
     field : (j : ℕ) → j < 4 → byte r (start r 2 + (4 * i + j)) ≡ byte (step_read s P i) j
-    field j m = over.field i l j m ∙ ap (λ l. byte l (4 * i + j)) (steps_fours s P (byte P 0)) ∙ fours_at (step_read s P) (λ i. refl) (byte P 0) i j l m
+    field j m = over.field i l j m ∙ fours_at (step_read s P) (λ i. refl) (byte P 0) i j l m
 
     rule_is : rule_at r i ≡ x.rule
     rule_is = let e : start r 2 + 4 * i ≡ start r 2 + (4 * i + 0) = omega arith in ap (byte r) e ∙ field 0 (omega arith)
@@ -251,7 +246,7 @@ module _ (s P : List ℕ) (bytes : Bytes s) (room n : ℕ) (read : read_back_ans
     first_held = ap (term r) p_is ∙ term_held x.left (low x.left registers_fit.0)
 
     second_held : term r (second_at r i) ≡ held s P (operand x)
-    unfolding second_at
+    unfolding second_for
     second_held =
         ap (term r) (ap₂ (λ (k : ℕ) (q : ℕ). cond (has_one k) (p_at r i) q) rule_is q_is ∙ ap (λ p. cond (has_one x.rule) p (cond (has_one x.rule) 0 (number s P x.right))) p_is)
         ∙ go (has_one x.rule) (fits.registers_right i l).2
@@ -277,7 +272,7 @@ module _ (s P : List ℕ) (bytes : Bytes s) (room n : ℕ) (read : read_back_ans
       q_below = rw (q_is, same.same_terms) second_low;
       conclusion_below = rw (conclusion_is, same.same_terms) (numbered_at (written s i) (omega arith)).0;
       unused = λ e. let f : has_one x.rule ≡ true = sym (ap has_one rule_is) ∙ e in q_is ∙ rw f;
-      step = rw (rule_is, first_held, second_held, concluded_held) step_held;
+      step = rw (second_held, rule_is, first_held, concluded_held) step_held;
     }
 
     pub step_right : StepRight r s P i

@@ -4,13 +4,13 @@ use mathlib.Core.Logic.{inl, inr, ⊎_elim, ite}
 use mathlib.Core.Bool.{true, false}
 use mathlib.Core.Option.{none, some}
 use mathlib.Core.List.{List, [], ◌∷◌, ◌++◌}
-use Prim.Native.Nat.{ℕ, zero, suc, ◌+◌, ◌*◌, ◌<◌}
+use Prim.Native.Nat.{ℕ, ◌+◌, ◌*◌, ◌<◌}
 use native.Mathlib.Omega.{arith}
 use lib.ListN.{length, get_or, drop}
 use lib.Seq.{get_or-take, get_or-drop}
-use Rattle.base.specs.Words.{Bytes, byte, first, grow, listed}
+use Rattle.base.specs.Words.{Bytes, byte, first, fours, grow, listed}
 use Rattle.base.specs.Answer.{Clear}
-use Rattle.base.proofs.{Order.lt_or_ge, Grow.grow_alike, First.first_equal}
+use Rattle.base.proofs.{Fours.fours_alike, Order.lt_or_ge, Grow.grow_alike, First.first_equal}
 use Rattle.term.specs.Term.{atom, atom_kind, void, decoded}
 use Rattle.term.specs.Computed.{term?}
 use Rattle.submission.specs.Record.{count, width, start, terms, entries, kind_at, x_at, y_at, name_at, entry_at, guess, record_at, term, guessed}
@@ -22,7 +22,7 @@ use Rattle.program.specs.Program.{Instruction, instruction_at, test_at}
 use Rattle.machine.specs.Run.{initial, executed, registers, held}
 use Rattle.machine.proofs.Theory.StateGrowth.{decoded_alike}
 use Rattle.form.proofs.Theory.RoundTrip.{body_length}
-use Rattle.readback.specs.{ReadBack.holds_number, ReadBack.number, ReadBack.step_read, ReadBack.steps_read, ReadBack.way_read, ReadBack.verifying_read, ReadBack.companion_read, ReadBack.claim_read}
+use Rattle.readback.specs.{ReadBack.holds_number, ReadBack.number, ReadBack.step_read, ReadBack.way_read, ReadBack.verifying_read, ReadBack.companion_read, ReadBack.claim_read}
 
 -- a byte of a body, where the body starts
 pub body_byte : (s : List ℕ) (k i : ℕ) → i < width k * count s k → byte (body_at s k) i ≡ byte s (start s k + i)
@@ -114,10 +114,8 @@ module _ {s s' : List ℕ} (a : Agree s s') where
     step_alike : (P : List ℕ) (i : ℕ) → step_read s P i ≡ step_read s' P i
     step_alike P i = rw (number_alike P (instruction_at P i).left, number_alike P (instruction_at P i).right, number_alike P (written s i), a.same_entries)
 
-    pub steps_alike : (P : List ℕ) (n : ℕ) → steps_read s P n ≡ steps_read s' P n
-    unfolding steps_read
-    steps_alike P zero = refl
-    steps_alike P (suc n) = ap₂ ◌++◌ (steps_alike P n) (step_alike P n)
+    pub steps_alike : (P : List ℕ) (n : ℕ) → fours (step_read s P) n ≡ fours (step_read s' P) n
+    steps_alike P n = fours_alike (step_read s P) (step_read s' P) n (λ i l. step_alike P i)
 
     verifying_alike : (t : Instruction) (o : Range) → verifying_read s t o ≡ verifying_read s' t o
     verifying_alike t step_number = rw a.same_entries

@@ -12,11 +12,6 @@ use Rattle.submission.proofs.check_terms.Goals as goal
 pub loop-i-init : goal.loop-i-init
 loop-i-init c = (passed_none, rw (c.new-chains.ensures.before, c.new-chains.ensures.latest) chaining_none)
 
-pub is_term_bad-requires : goal.is_term_bad-requires
-is_term_bad-requires c =
-    let m : c.terms-n.result < 256 = omega arith in
-    (record_chained _ c.loop-i.invariant.1 c.loop-i-test.true m c.term_at.ensures c.chain_of.ensures c.chain.ensures.before c.chain.ensures.latest).chained
-
 pub returns-then-is_term_bad : goal.returns-then-is_term_bad
 returns-then-is_term_bad c =
     fails_hit c.at.ensures.fault refl c.loop-i.invariant.0 c.loop-i-test.true c.terms-n.ensures (c.at.ensures.place ∙ c.from.ensures) (sym c.is_term_bad.ensures ∙ c.if-is_term_bad.true)
@@ -24,7 +19,7 @@ returns-then-is_term_bad c =
 pub loop-i-preserved : goal.loop-i-preserved
 loop-i-preserved c =
     let m : c.terms-n.result < 256 = omega arith in
-    (search scan, record_chained _ c.loop-i.invariant.1 c.loop-i-test.true m c.term_at.ensures c.chain_of.ensures c.chain.ensures.before c.chain.ensures.latest)
+    (search scan, record_chained _ c.loop-i.invariant.1 c.loop-i-test.true m c.term_at-t.ensures c.chain_of.ensures c.chain.ensures.before c.chain.ensures.latest)
 
 pub returns : goal.returns
 returns c = search (passes_all, scan)

@@ -8,22 +8,9 @@ use lib.Seq.{take-append_seam, drop-append_seam}
 use Rattle.base.specs.Words.{Bytes}
 use Rattle.base.specs.Answer.{Answer, done, refused, page_after}
 use Rattle.base.proofs.AnswerLaws.{refused_page}
-use Rattle.submission.specs.Record.{term, InKnowledge}
 use Rattle.submission.proofs.Theory.ListedTerms.{Listed}
 use Rattle.witness.specs.{Deduction.Deduction, Computed.deduction_answer, Calls.DeductionWritten}
 use Rattle.witness.proofs.Theory.{DeductionAnswer.shown_yes, DeductionLaws.few_steps}
-
--- a term in the knowledge is shown by no steps
-pub no_steps_shown : (s : List ℕ) (t : ℕ) → InKnowledge s (term s t) → Deduction s t 0 []
-no_steps_shown s t k = record {
-  long = refl;
-  fits = λ i l. absurd (omega arith);
-  founded = λ i l. absurd (omega arith);
-  new = λ i l. absurd (omega arith);
-  none = λ e. k;
-  last = λ i e. absurd (omega arith);
-  used = λ i l. absurd (omega arith);
-}
 
 -- a page that isn't refused has room for it
 pub sheet_enough : {s : List ℕ} {t n : ℕ} {l : List ℕ} → Listed s → Deduction s t n l → length l ≤ 1000

@@ -7,7 +7,8 @@ use checker_tests::bodies::divided;
 use checker_tests::generate::{Form, Input, Sent, Sheet};
 use checker_tests::reference::{contents, records};
 use checker_tests::tables::{
-    program_length, Body, Kind, Way, LONGEST_PROGRAM, LONGEST_READ_BACK, LONGEST_SUBMISSION,
+    program_length, Body, Kind, Way, IN_KNOWLEDGE, LONGEST_PROGRAM, LONGEST_READ_BACK,
+    LONGEST_SUBMISSION,
 };
 
 /// The stack of the thread that calls the checker, in bytes: what a call needs at most, as
@@ -76,13 +77,13 @@ pub struct Deduced {
     pub page: Vec<u8>,
     /// What deducible answers for the same term.
     pub deducible: u32,
-    /// What check answers to claims with these steps as the derivation, where there are steps and no
-    /// more than a derivation may have.
+    /// What check answers to claims with these steps as the derivation, where there are no more than a
+    /// derivation may have.
     pub again: Vec<(Claimed, u32)>,
 }
 
-/// A claim that is made of the steps to a term: that the last of them gives the guess, in ways in which
-/// the guess doesn't count as known.
+/// A claim that is made of the steps to a term: that the last of them, or the knowledge where there is
+/// none, gives the guess, in ways in which the guess doesn't count as known.
 #[derive(Clone, Copy)]
 pub struct Claimed {
     pub way: Way,
@@ -186,12 +187,12 @@ impl Again {
 }
 
 impl Deduced {
-    fn of(submission: &[u8], sheet: &Sheet) -> Deduced {
+    pub fn of(submission: &[u8], sheet: &Sheet) -> Deduced {
         let mut page = sheet.page.clone();
         let answer = raw::deduction(submission, sheet.term, &mut page);
         let deducible = raw::deducible(submission, sheet.term);
-        let steps = steps_shown(answer, &page).unwrap_or(&[]);
-        let again = Claimed::of(submission, sheet.term, steps);
+        let steps = steps_shown(answer, &page);
+        let again = steps.map_or(vec![], |steps| Claimed::of(submission, sheet.term, steps));
         Deduced { deducible, again, answer, page }
     }
 
@@ -209,24 +210,27 @@ fn steps_shown(answer: u32, page: &[u8]) -> Option<&[u8]> {
 }
 
 impl Claimed {
-    /// The claims that can be made of these steps, with what check answers to them.
+    /// The claims that can be made of these steps, with what check answers to them; or write, where it
+    /// refuses one.
     fn of(submission: &[u8], term: u8, steps: &[u8]) -> Vec<(Claimed, u32)> {
         let count = steps.len() / Body::Derivation.record();
-        if count == 0 || count > Body::Derivation.most() {
+        if count > Body::Derivation.most() {
             return vec![];
         }
         let Ok([terms, knowledge, ..]) = contents::bodies(submission) else {
             return vec![];
         };
-        let last = (count - 1) as u8;
+        let last = count.checked_sub(1).map_or(IN_KNOWLEDGE, |last| last as u8);
         let asked = |claimed: Claimed| {
             let claim = [claimed.guess, last, claimed.way.letter(), 0];
             let mut page = [0; LONGEST_SUBMISSION];
             let answer = raw::write(terms, knowledge, steps, &claim, &mut page);
-            let written = written(answer, &page)?;
-            Some((claimed, raw::check(written, &mut [0; LONGEST_PROGRAM])))
+            let check = |written| raw::check(written, &mut [0; LONGEST_PROGRAM]);
+            (claimed, written(answer, &page).map_or(answer, check))
         };
-        Claimed::about(terms, term).into_iter().filter_map(asked).collect()
+        let mut claims = Claimed::about(terms, term);
+        claims.retain(|claimed| claimed.is_true || count > 0);
+        claims.into_iter().map(asked).collect()
     }
 
     /// That the guess is deducible, where the term is an atom, and that the inverse of the guess is,

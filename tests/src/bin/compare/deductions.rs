@@ -3,13 +3,17 @@
 use std::fmt::{self, Display};
 
 use checker_tests::bodies::Bodies;
-use checker_tests::generate::{Input, Sheet};
+use checker_tests::generate::{around, premises, Input, Sheet, Table};
 use checker_tests::reference::{code, records, Checked, Deductions, Refusal, REFUSAL};
 use checker_tests::tables::{Call, Reason};
 
 use crate::answers::{Claimed, Deduced};
+use crate::shown::Shown;
 use crate::tally::Tally;
 use crate::{answer, difference, same, same_bytes, Hex};
+
+#[cfg(test)]
+mod tests;
 
 /// Each term that is asked for, on its page. Deducible says yes and no as the reference does, and
 /// refuses what the deduction refuses, but for the page.
@@ -86,13 +90,27 @@ fn compare_steps(
         let again = format_args!("{call}, {}, checked in way {way} of {guess}", Hex(bytes));
         same(input, again, expected_again(claimed, &steps), *found)?;
     }
-    tally.deductions.count_yes(bodies, sheet.term, &steps, deductions.taken());
+    tally.deductions.count_yes(&Shown {
+        bodies,
+        term: sheet.term,
+        steps: &steps,
+        taken: deductions.taken(),
+        ways: ways(deductions, bodies, sheet.term),
+    });
     tally.deductions.count_again(bodies, sheet.term, steps.len(), &found.again);
     Ok(())
 }
 
-/// As a derivation the steps pass checks 6 and 7: a true claim of their last conclusion is accepted, and
-/// another is refused with 16, which comes after these.
+/// How many steps over listed terms conclude the term from what is deducible.
+fn ways(deductions: &Deductions, bodies: &Bodies, term: u8) -> usize {
+    let table = Table::of(&bodies.terms);
+    let steps = table.numbers().flat_map(|number| around(&table, number));
+    let is_given = |&premise: &u8| deductions.deducible(premise) == Ok(true);
+    steps.filter(|step| step[3] == term).filter(|step| premises(step).iter().all(is_given)).count()
+}
+
+/// As a derivation the steps pass checks 6 and 7: a true claim of their last conclusion, or of an entry
+/// of the knowledge, is accepted, and another is refused with 16, which comes after these.
 fn expected_again(claimed: &Claimed, steps: &[[u8; 4]]) -> u32 {
     if claimed.is_true {
         steps.len() as u32

@@ -83,15 +83,21 @@ const STEPS: [StepRow; 3] = [
     ("the only step", |shown, _| shown.steps.len() == 1),
 ];
 
-/// A row of steps that open something with a key: its title, for which kinds of key it has to be
-/// reached, and whether the key, or its inverse, by which the step opens has this origin.
-type KeyRow = (&'static str, fn(Kind) -> bool, Origin);
+/// A row of deductions that open something with a key: its title, for which kinds of key it has to be
+/// reached, where the key, or its inverse, by which a step opens comes from, and how many such steps there
+/// are at least.
+type KeyRow = (&'static str, fn(Kind) -> bool, Origin, usize);
 
-const KEYS: [KeyRow; 3] = [
-    ("opened, key known", |_| true, Origin::Knowledge),
-    ("opened, key taken", |_| true, Origin::Taken),
-    ("opened, key built", |kind| !kind.is_atom(), Origin::Built),
+const KEYS: [KeyRow; 5] = [
+    ("opened, key known", any, Origin::Knowledge, 1),
+    ("opened, key taken", any, Origin::Taken, 1),
+    ("opened, key built", |kind| !kind.is_atom(), Origin::Built, 1),
+    ("chain, keys taken", any, Origin::Taken, CHAIN),
+    ("chain, keys built", |kind| !kind.is_atom(), Origin::Built, CHAIN),
 ];
+
+/// How many steps make a chain.
+const CHAIN: usize = 10;
 
 /// Where a premise comes from.
 #[derive(Clone, Copy, PartialEq, Eq)]
@@ -104,11 +110,22 @@ enum Origin {
 /// A row of terms: its title, for which kinds it has to be reached, and whether it counts a deduction.
 type TermRow = (&'static str, fn(Kind) -> bool, fn(&Shown) -> bool);
 
-const TERMS: [TermRow; 9] = [
+const TERMS: [TermRow; 16] = [
     ("yes, no step", any, |shown| shown.steps.is_empty()),
     ("yes, 1 step", any, |shown| shown.steps.len() == 1),
     ("yes, 2 to 128 steps", any, |shown| shown.steps.len() > 1 && !shown.is_long()),
-    ("yes, 129 and more", |kind| !has_inverse(kind), |shown| shown.is_long()),
+    ("yes, 129 and more", any, |shown| shown.is_long()),
+    ("yes, 249 steps", any, |shown| shown.steps.len() + 1 == Body::Terms.most()),
+    ("all that is unknown", any, |shown| shown.bodies.knowledge.len() > 1 && shown.concludes_all()),
+    (
+        "equal parts",
+        |kind| kind.is_atom() || kind == Kind::Pair,
+        |shown| shown.doublings() >= CHAIN,
+    ),
+    ("known, other steps", any, |shown| shown.steps.is_empty() && shown.ways > 0),
+    ("several last steps", any, |shown| !shown.steps.is_empty() && shown.ways > 1),
+    ("the guess, known", Kind::is_atom, |shown| shown.is_guess() && shown.steps.is_empty()),
+    ("the guess, by steps", Kind::is_atom, |shown| shown.is_guess() && !shown.steps.is_empty()),
     ("more is reached", any, |shown| shown.takes() < shown.taken),
     ("more, from 2 steps", any, |shown| shown.steps.len() > 1 && shown.takes() < shown.taken),
     (
@@ -128,23 +145,40 @@ fn has_inverse(kind: Kind) -> bool {
     kind.inverse().is_some()
 }
 
-/// A row of noes: its title, and whether it counts the no to a term that would be deducible with the
-/// guess, or to one that wouldn't.
-type NoRow = (&'static str, fn(bool) -> bool);
+/// A row of noes: its title, for which kinds of term it has to be reached, and whether it counts a no.
+type NoRow = (&'static str, fn(Kind) -> bool, fn(&Unknown) -> bool);
 
-const NOES: [NoRow; 2] = [("no", |_| true), ("no, with guess yes", |with_guess| with_guess)];
+const NOES: [NoRow; 3] = [
+    ("no", any, |_| true),
+    ("no, with guess yes", any, |unknown| unknown.is_with_guess && !unknown.is_guess),
+    ("no, the guess", Kind::is_atom, |unknown| unknown.is_guess),
+];
+
+/// A term that is not deducible: whether it would be if the guess were known, and whether it is the guess.
+struct Unknown {
+    is_with_guess: bool,
+    is_guess: bool,
+}
 
 /// A row of deductions that were checked again as derivations: its title, for which kinds of term it has
 /// to be reached, and whether it counts such a claim of so many steps.
 type AgainRow = (&'static str, fn(Kind) -> bool, fn(&Claimed, usize) -> bool);
 
-const AGAIN: [AgainRow; 5] = [
-    ("again, way k", Kind::is_atom, |claimed, _| is_true(claimed, Way::DeducibleGuess)),
-    ("again, way j", has_inverse, |claimed, _| is_true(claimed, Way::DeducibleInverse)),
-    ("again, 10 and more", Kind::is_atom, |claimed, steps| claimed.is_true && steps >= 10),
-    ("again, 128 steps", has_inverse, |claimed, steps| {
-        claimed.is_true && steps == Body::Derivation.most()
+const AGAIN: [AgainRow; 7] = [
+    ("again, way k", Kind::is_atom, |claimed, steps| {
+        is_true(claimed, Way::DeducibleGuess) && steps > 0
     }),
+    ("again, way j", has_inverse, |claimed, steps| {
+        is_true(claimed, Way::DeducibleInverse) && steps > 0
+    }),
+    ("again, k, no step", Kind::is_atom, |claimed, steps| {
+        is_true(claimed, Way::DeducibleGuess) && steps == 0
+    }),
+    ("again, j, no step", has_inverse, |claimed, steps| {
+        is_true(claimed, Way::DeducibleInverse) && steps == 0
+    }),
+    ("again, 10 and more", Kind::is_atom, |claimed, steps| claimed.is_true && steps >= 10),
+    ("again, 128 steps", any, |_, steps| steps == Body::Derivation.most()),
     ("again, 16", |kind| !kind.is_atom(), |claimed, _| !claimed.is_true),
 ];
 
@@ -153,11 +187,14 @@ fn is_true(claimed: &Claimed, way: Way) -> bool {
 }
 
 /// A deduction that was given.
-struct Shown<'a> {
-    bodies: &'a Bodies,
-    steps: &'a [[u8; 4]],
+pub struct Shown<'a> {
+    pub bodies: &'a Bodies,
+    pub term: u8,
+    pub steps: &'a [[u8; 4]],
     /// How many terms taking apart reaches that are not in the knowledge.
-    taken: usize,
+    pub taken: usize,
+    /// How many steps over listed terms conclude the term from what is deducible.
+    pub ways: usize,
 }
 
 impl Shown<'_> {
@@ -170,8 +207,28 @@ impl Shown<'_> {
         self.steps.iter().filter(|step| !rule(step).builds()).count()
     }
 
+    /// Whether the steps conclude every term that is not in the knowledge.
+    fn concludes_all(&self) -> bool {
+        self.steps.len() + self.bodies.knowledge.len() == self.bodies.terms.len()
+    }
+
+    /// How many steps build a pair of equal parts, or take it apart.
+    fn doublings(&self) -> usize {
+        let pairs = self.steps.iter().filter_map(|step| match rule(step) {
+            Rule::Pair => Some(step[3]),
+            Rule::Fst | Rule::Snd => Some(step[1]),
+            _ => None,
+        });
+        let terms = &self.bodies.terms;
+        pairs.filter(|&pair| matches!(terms[usize::from(pair)], [_, x, y] if x == y)).count()
+    }
+
     fn guess(&self) -> u8 {
         self.bodies.claim[0]
+    }
+
+    fn is_guess(&self) -> bool {
+        self.term == self.guess()
     }
 
     fn knows_guess(&self) -> bool {
@@ -247,25 +304,28 @@ impl Deductions {
     }
 
     /// Counts a no; the term would be deducible with the guess, or it wouldn't.
-    pub fn count_no(&mut self, bodies: &Bodies, term: u8, with_guess: bool) {
-        for (counts, (_, holds)) in self.noes.iter_mut().zip(NOES) {
-            counts[kind(bodies, term) as usize] += u64::from(holds(with_guess));
+    pub fn count_no(&mut self, bodies: &Bodies, term: u8, is_with_guess: bool) {
+        let unknown = Unknown { is_with_guess, is_guess: term == bodies.claim[0] };
+        for (counts, (_, _, holds)) in self.noes.iter_mut().zip(NOES) {
+            counts[kind(bodies, term) as usize] += u64::from(holds(&unknown));
         }
     }
 
-    /// Counts the steps to a term, where taking apart reaches so many terms in all.
-    pub fn count_yes(&mut self, bodies: &Bodies, term: u8, steps: &[[u8; 4]], taken: usize) {
-        let shown = Shown { bodies, steps, taken };
+    /// Counts a yes.
+    pub fn count_yes(&mut self, shown: &Shown) {
         for (counts, (_, _, holds)) in self.terms.iter_mut().zip(TERMS) {
-            counts[kind(bodies, term) as usize] += u64::from(holds(&shown));
+            counts[kind(shown.bodies, shown.term) as usize] += u64::from(holds(shown));
         }
-        for (number, step) in steps.iter().enumerate() {
+        for (number, step) in shown.steps.iter().enumerate() {
             for (counts, (_, holds)) in self.steps.iter_mut().zip(STEPS) {
-                counts[rule(step) as usize] += u64::from(holds(&shown, number));
+                counts[rule(step) as usize] += u64::from(holds(shown, number));
             }
-            let Some((key, origin)) = shown.opened(step) else { continue };
-            for (counts, (_, _, other)) in self.keys.iter_mut().zip(KEYS) {
-                counts[key as usize] += u64::from(origin == other);
+        }
+        let opened: Vec<_> = shown.steps.iter().filter_map(|step| shown.opened(step)).collect();
+        for (counts, (_, _, origin, least)) in self.keys.iter_mut().zip(KEYS) {
+            for key in Kind::locking() {
+                let steps = opened.iter().filter(|&&other| other == (key, origin)).count();
+                counts[key as usize] += u64::from(steps >= least);
             }
         }
     }
@@ -305,7 +365,8 @@ impl Deductions {
     }
 
     fn by_kind(&self) -> Vec<Counts<'_>> {
-        let noes = self.noes.iter().zip(NOES).map(|(counts, (title, _))| (title, any as _, counts));
+        let noes = self.noes.iter().zip(NOES);
+        let noes = noes.map(|(counts, (title, is_reached, _))| (title, is_reached, counts));
         let terms = self.terms.iter().zip(TERMS);
         let terms = terms.map(|(counts, (title, is_reached, _))| (title, is_reached, counts));
         let again = self.again.iter().zip(AGAIN);
@@ -325,7 +386,7 @@ impl Deductions {
             let never = Rule::ALL.into_iter().filter(|&rule| counts[rule as usize] == 0);
             missing.extend(never.map(|rule| format!("{title}: {}", rule.word())));
         }
-        for (counts, (title, is_reached, _)) in self.keys.iter().zip(KEYS) {
+        for (counts, (title, is_reached, ..)) in self.keys.iter().zip(KEYS) {
             let keys = Kind::locking().into_iter().filter(|&kind| is_reached(kind));
             let never = keys.filter(|&kind| counts[kind as usize] == 0);
             missing.extend(never.map(|kind| format!("{title}: {}", kind.word())));

@@ -5,7 +5,7 @@ use Rattle.std.proofs.Common.{rules}
 use Rattle.std.proofs.lemmas.Iterator.{first_from_Range}
 use Rattle.submission.specs.{Record.entry_at, Code.target_is}
 use Rattle.conditions.specs.Computed.{is_target, entry_found}
-use Rattle.conditions.proofs.Found.{first_found_is}
+use Rattle.base.proofs.Find.{place_found}
 use Rattle.conditions.proofs.given.entry_given.Goals as goal
 
 pub returns : goal.returns
@@ -13,5 +13,6 @@ unfolding entry_found
 returns c =
     let s = c.args.claimed.bytes.now in
     let t = target_is c.args.target in
-    first_found_is (λ i. is_target s t (entry_at s i)) c.find.result c.entries.ensures
+    place_found (λ i. is_target s t (entry_at s i)) c.find.result
     (first_from_Range _ _ _ _ (λ i. is_target s t (entry_at s i) ≡ true) (λ i. is_target s t (entry_at s i) ≡ false) c.find.ensures.ran (λ x q k. search rules) (λ x q k. search rules))
+    c.entries.ensures

@@ -1,8 +1,8 @@
--- `chained` meets its contract: the records before i are linked.
+-- `chain_records` meets its contract: the records before i are linked.
 use native.Mathlib.Omega.{arith}
 use Rattle.deduction.proofs.Clauses.{linked_start, linked_apart, linked_more, linked_end}
 use Rattle.std.proofs.Common.{rules}
-use Rattle.deduction.proofs.chains.chained.Goals as goal
+use Rattle.deduction.proofs.chains.chain_records.Goals as goal
 
 pub loop-i-init : goal.loop-i-init
 loop-i-init c = (omega arith, search (linked_start, rules))

@@ -1,7 +1,7 @@
--- `find_before` meets its contract: the walk along the chain of i.
+-- `find` meets its contract: the walk along the chain of y.
 use Rattle.std.proofs.Common.{rules}
 use Rattle.base.proofs.Chains.{searched_start, searched_more, searched_less, searched_hit, searched_end}
-use Rattle.base.proofs.byte_chains.ByteChains.find_before.Goals as goal
+use Rattle.base.proofs.byte_chains.ByteChains.find.Goals as goal
 
 pub loop-next-init : goal.loop-next-init
 loop-next-init g c = search (searched_start, rules)
