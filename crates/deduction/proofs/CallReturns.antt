@@ -22,9 +22,10 @@ twice true = refl
 twice false = refl
 
 module _ {s : List ℕ} (start : List Bool) (v : TableRead s) (m : SameMarks s start (entry_marks s)) where
-  pub said_known : {t : ℕ} {b : Bool} → t < terms s → b ≡ (is_deducible s start t && is_deducible s start t) → b ≡ is_deducible s (entry_marks s) t
-  said_known {t = t} l e = e ∙ twice (is_deducible s start t) ∙ same_start (facts v) m t l
-
   pub both_known : {p q : ℕ} {r : Bool} → p < terms s → q < terms s → r ≡ (is_deducible s start p && is_deducible s start q) →
       r ≡ (is_deducible s (entry_marks s) p && is_deducible s (entry_marks s) q)
   both_known {p} {q} b c e = e ∙ ap₂ ◌&&◌ (same_start (facts v) m p b) (same_start (facts v) m q c)
+
+  -- and of the one term twice
+  pub said_known : {t : ℕ} {b : Bool} → t < terms s → b ≡ (is_deducible s start t && is_deducible s start t) → b ≡ is_deducible s (entry_marks s) t
+  said_known {t = t} l e = both_known l l e ∙ twice (is_deducible s (entry_marks s) t)

@@ -12,9 +12,6 @@ use Rattle.base.proofs.FirstGrowing.{first_kept, any_first, any_more}
 use Rattle.submission.specs.Record.{steps, p_at, second_at}
 use Rattle.derivation.specs.{Step.written, Computed.lowest_among, Computed.is_known}
 use Rattle.derivation.specs.Computed.{unfounded}
-use Rattle.std.specs.Prelude.{Option as Maybe, Some}
-use Rattle.derivation.specs.Code.{Lowest, register_in}
-use Rattle.derivation.proofs.RegistersHeld.{held_lowest}
 
 -- a founded step's premises are known before it
 module _ (s : List ℕ) (i : ℕ) (f : unfounded s i ≡ false) where
@@ -32,12 +29,6 @@ module _ (s : List ℕ) (i t : ℕ) (l : i ≤ steps s) (k : is_known s i t ≡ 
   known_lowest =
       let (q, e) = any_first _ (written s i) k in
       (q, first_kept _ (written s i) (written s (steps s)) q (omega arith) e, (first_some _ (written s i) q e).0)
-
-  pub known_held : {f : List (Maybe ℕ)} → Lowest s (written s (steps s)) f → t < 256 →
-      (q : ℕ) × (register_in f t ≡ Some q) × (lowest_among s (written s (steps s)) t ≡ some q)
-  known_held h m =
-      let (q, e, b) = known_lowest in
-      (q, held_lowest h t m q e, e)
 
 -- what is known before a step is known before every later one
 pub known_stays : (s : List ℕ) (i j t : ℕ) → i ≤ j → is_known s i t ≡ true → is_known s j t ≡ true
