@@ -6,14 +6,14 @@ use lib.ListN.{get_or}
 use Rattle.std.specs.Prelude.{Result, Ok, Err}
 use Rattle.base.specs.declared.refusal.Refusal.{Refusal}
 use Rattle.base.specs.declared.refusal.Fault.{Fault}
-use Rattle.base.specs.declared.refusal.Fault.TheVariants.{Contents, Count, Term, Knowledge, Claim, Step, Unfounded, Reachable, NoSecondWay, Undone, Page, NoSuchTerm, Program, Ragged, Stale, NotShown, OffTable, NoClaim, ShortSheet}
+use Rattle.base.specs.declared.refusal.Fault.TheVariants.{Contents, Count, Term, Knowledge, Claim, Step, Unfounded, Reachable, NoSecondWay, Undone, Page, NoSuchTerm, Program, Ragged, Stale, NotShown, OffTable, NoClaim, ShortSheet, Overfull}
 use Rattle.base.specs.Answer.{number_of, answer_of}
 use Rattle.base.proofs.AnswerLaws.{refused_not_done}
 
 -- the fault of a number
 abbrev fault_of : ℕ → Fault
 fault_of n =
-    get_or (Contents ∷ Contents ∷ Count ∷ Term ∷ Knowledge ∷ Claim ∷ Step ∷ Unfounded ∷ Reachable ∷ NoSecondWay ∷ Undone ∷ Page ∷ NoSuchTerm ∷ Program ∷ Ragged ∷ Stale ∷ NotShown ∷ OffTable ∷ NoClaim ∷ ShortSheet ∷ []) n Contents
+    get_or (Contents ∷ Contents ∷ Count ∷ Term ∷ Knowledge ∷ Claim ∷ Step ∷ Unfounded ∷ Reachable ∷ NoSecondWay ∷ Undone ∷ Page ∷ NoSuchTerm ∷ Program ∷ Ragged ∷ Stale ∷ NotShown ∷ OffTable ∷ NoClaim ∷ ShortSheet ∷ Overfull ∷ []) n Contents
 
 fault_back : (a : Fault) → fault_of (number_of a) ≡ a
 fault_back Contents = refl
@@ -35,6 +35,7 @@ fault_back NotShown = refl
 fault_back OffTable = refl
 fault_back NoClaim = refl
 fault_back ShortSheet = refl
+fault_back Overfull = refl
 
 -- no two faults have one number
 pub number_of_one_to_one : (a b : Fault) → number_of a ≡ number_of b → a ≡ b

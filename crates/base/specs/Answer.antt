@@ -2,7 +2,7 @@
 use Rattle.std.specs.Prelude.{◌≡◌, ◌⊎◌, ◌∷◌, ◌++◌, ◌+◌, ◌-◌, ◌<◌, ◌≤◌}
 use Rattle.std.specs.Prelude.{Result, Ok, Err}
 use Rattle.base.specs.declared.refusal.Fault.{Fault}
-use Rattle.base.specs.declared.refusal.Fault.TheVariants.{Contents, Count, Term, Knowledge, Claim, Step, Unfounded, Reachable, NoSecondWay, Undone, Page, NoSuchTerm, Program, Ragged, Stale, NotShown, OffTable, NoClaim, ShortSheet}
+use Rattle.base.specs.declared.refusal.Fault.TheVariants.{Contents, Count, Term, Knowledge, Claim, Step, Unfounded, Reachable, NoSecondWay, Undone, Page, NoSuchTerm, Program, Ragged, Stale, NotShown, OffTable, NoClaim, ShortSheet, Overfull}
 use Rattle.base.specs.{declared.refusal.Refusal.Refusal, Words.List, Words.[], Words.ℕ, Words.min, Words.length, Words.drop, Words.sets}
 
 -- "An acceptance carries N"; deducible's yes and no are 1 and 0, and so is the signal; a deduction's are 1 + the count of steps and 0; an acceptance
@@ -37,6 +37,7 @@ number_of NotShown = 16
 number_of OffTable = 17
 number_of NoClaim = 18
 number_of ShortSheet = 19
+number_of Overfull = 20
 
 -- the answer that a call's result stands for
 abbrev pub answer_of : Result ℕ Refusal → Answer

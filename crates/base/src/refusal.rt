@@ -26,6 +26,7 @@ pub enum Fault {
     OffTable = 17,
     NoClaim = 18,
     ShortSheet = 19,
+    Overfull = 20,
 }
 
 impl Fault {

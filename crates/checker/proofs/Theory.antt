@@ -4,6 +4,7 @@ pub mod FromCalls
 pub mod HashLaws
 pub mod KnownGuessLaws
 pub mod LongInput
+pub mod PooledLaws
 pub mod PromiseExamples
 pub mod ShownLaws
 pub mod StaleLaws

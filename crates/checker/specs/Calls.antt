@@ -4,6 +4,7 @@ use Rattle.base.specs.{Words.List, Words.ℕ, Words.length, Words.take, Words.re
 use Rattle.submission.specs.{Record.entries, Body.Bodies, Body.submission_of}
 use Rattle.form.specs.Computed.{write_answer}
 use Rattle.inverse.specs.Computed.{inverses_of, inverses_answer}
+use Rattle.pool.specs.{Pool.joined, Computed.join_answer}
 use Rattle.readback.specs.{ReadBack.bodies_read, Computed.read_back_answer}
 use Rattle.text.specs.Text.{answer_text}
 use Rattle.program.specs.Program.{bytes_of}
@@ -25,6 +26,10 @@ EncodedForm b page r page' = Writes (λ a. r ≡ encoded a) (write_answer b (len
 -- `checker_inverses`: the number r is the answer, and the page is that of the inverses
 abbrev pub EncodedInverses : List ℕ → List ℕ → ℕ → List ℕ → Type 0
 EncodedInverses s page r page' = Writes (λ a. r ≡ encoded a) (inverses_answer s (length page)) (inverses_of s) page page'
+
+-- `checker_join`: the number r is the answer, and the page is that of joining
+abbrev pub EncodedPool : List ℕ → List ℕ → List ℕ → ℕ → List ℕ → Type 0
+EncodedPool a b page r page' = Writes (λ c. r ≡ encoded c) (join_answer a b (length page)) (joined a b) page page'
 
 -- `checker_read_back`: the number r is the answer, and the page is that of reading back
 abbrev pub EncodedBodies : List ℕ → List ℕ → List ℕ → ℕ → List ℕ → Type 0

@@ -7,6 +7,7 @@ use Rattle.inverse.specs.{Inverse.inverses_rows, Computed.inverses_answer}
 use Rattle.deduction.specs.{Deduce.deducible_rows, Deduce.DeducibleValue, Computed.deducible_answer}
 use Rattle.machine.specs.{Run.signal, Run.run_rows, Computed.run_answer}
 use Rattle.witness.specs.{Deduction.deduction_rows, Deduction.DeductionValue, Computed.deduction_answer}
+use Rattle.pool.specs.{Pool.joined, Pool.join_rows, Computed.join_answer}
 use Rattle.readback.specs.{ReadBack.bodies_length, ReadBack.read_back_rows, Computed.read_back_answer}
 use Rattle.conditions.specs.{Condition.check_rows, Computed.check_answer}
 
@@ -19,5 +20,6 @@ pub record Demand1 : Type 0 where
   pub deduction : (s : List ℕ) → Bytes s → (t room n : ℕ) (a : Answer) → (deduction_answer s t room n ≡ a) ↔ Answers (deduction_rows s t room) (DeductionValue s t n) a
   pub run : (s P : List ℕ) → Bytes s → (name : ℕ) (a : Answer) → (run_answer s name P ≡ a) ↔ Answers (run_rows s name P) (λ v. v ≡ signal s name P) a
   pub write : (b : Bodies) (room : ℕ) (a : Answer) → (write_answer b room ≡ a) ↔ Answers (write_rows b room) (λ n. n ≡ length (submission_of b)) a
+  pub join : (a b : List ℕ) → Bytes a → Bytes b → (room : ℕ) (c : Answer) → (join_answer a b room ≡ c) ↔ Answers (join_rows a b room) (λ n. n ≡ length (joined a b)) c
   pub inverses : (s : List ℕ) → Bytes s → (room : ℕ) (a : Answer) → (inverses_answer s room ≡ a) ↔ Answers (inverses_rows s room) (λ n. n ≡ terms s) a
   pub read_back : (s P : List ℕ) → Bytes s → (room : ℕ) (a : Answer) → (read_back_answer s P room ≡ a) ↔ Answers (read_back_rows s P room) (λ n. n ≡ bodies_length (byte P 0)) a

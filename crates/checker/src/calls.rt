@@ -7,7 +7,7 @@ ghost use Rattle.submission.specs.Body.{bodies};
 ghost use Rattle.deduction.specs.Computed.{deducible_answer};
 ghost use Rattle.machine.specs.Computed.{run_answer};
 ghost use Rattle.witness.specs.Calls.{DeductionWritten};
-ghost use Rattle.checker.specs.Calls.{encoded, Encoded, EncodedForm, EncodedInverses, EncodedBodies};
+ghost use Rattle.checker.specs.Calls.{encoded, Encoded, EncodedForm, EncodedInverses, EncodedPool, EncodedBodies};
 
 use base::Refusal;
 
@@ -61,6 +61,12 @@ pub fn checker_inverses(sub: &[u8], page: &mut [u8]) -> u32
     ensures { EncodedInverses sub.now page.old result page.new }
 {
     encode(inverse::inverses(sub, page))
+}
+
+pub fn checker_join(first: &[u8], second: &[u8], page: &mut [u8]) -> u32
+    ensures { EncodedPool first.now second.now page.old result page.new }
+{
+    encode(pool::join(first, second, page))
 }
 
 pub fn checker_read_back(sub: &[u8], program: &[u8], page: &mut [u8]) -> u32

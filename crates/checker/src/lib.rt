@@ -1,5 +1,5 @@
-// The public calls together: `check`, `answer`, `deducible`, `deduction`, `run`, `write`, `inverses` and `read_back`, the text of a verdict, and
-// the calls for C.
+// The public calls together: `check`, `answer`, `deducible`, `deduction`, `run`, `write`, `inverses`, `join` and `read_back`, the text of a
+// verdict, and the calls for C.
 // Promises: every call is total, for all bytes, and its answer and the bytes that it writes are what the definitions of specs/ give.
 #![tactic(auto)]
 
@@ -15,6 +15,7 @@ pub use deduction::deducible;
 pub use form::write;
 pub use inverse::inverses;
 pub use machine::run;
+pub use pool::join;
 pub use readback::read_back;
 pub use witness::deduction;
 

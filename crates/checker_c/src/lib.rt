@@ -8,7 +8,7 @@ ghost use Rattle.submission.specs.Body.{bodies};
 ghost use Rattle.deduction.specs.Computed.{deducible_answer};
 ghost use Rattle.machine.specs.Computed.{run_answer};
 ghost use Rattle.witness.specs.Calls.{DeductionWritten};
-ghost use Rattle.checker.specs.Calls.{encoded, Encoded, EncodedForm, EncodedInverses, EncodedBodies};
+ghost use Rattle.checker.specs.Calls.{encoded, Encoded, EncodedForm, EncodedInverses, EncodedPool, EncodedBodies};
 
 use checker::calls;
 
@@ -58,6 +58,13 @@ pub extern "C" fn checker_inverses(sub: &[u8], page: &mut [u8]) -> u32
     ensures { EncodedInverses sub.now page.old result page.new }
 {
     calls::checker_inverses(sub, page)
+}
+
+#[unsafe(no_mangle)]
+pub extern "C" fn checker_join(first: &[u8], second: &[u8], page: &mut [u8]) -> u32
+    ensures { EncodedPool first.now second.now page.old result page.new }
+{
+    calls::checker_join(first, second, page)
 }
 
 #[unsafe(no_mangle)]

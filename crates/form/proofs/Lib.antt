@@ -1,3 +1,4 @@
 pub mod ContentsReturns
+pub mod OwnBodies
 pub mod WriteReturns
 pub mod Theory

@@ -5,11 +5,11 @@
 ghost use Rattle.submission.specs.Body.{bodies};
 ghost use Rattle.form.specs.Calls.{FormWritten};
 
-mod bodies;
+pub mod bodies;
 mod writable;
 
 use base::Refusal;
-use bodies::Bodies;
+pub use bodies::Bodies;
 use writable::WritableBodies;
 
 // Writes the submission of the four bodies to the page's start, contents first, and answers its length. Only an acceptance writes.

@@ -2,6 +2,7 @@
 pub mod ContentsMeant
 pub mod GoodRecord
 pub mod Limits
+pub mod ListedNumbers
 pub mod ListedTerms
 pub mod ReadingRows
 pub mod StaleTests

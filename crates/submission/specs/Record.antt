@@ -1,7 +1,7 @@
 -- A submission's contents and records: document 01, 'The submission'. "Records count from 0."
 use Rattle.std.specs.Prelude.{◌≡◌, ◌∷◌, ◌+◌, ◌*◌, ◌<◌}
-use Rattle.base.specs.{Words.cond, Words.List, Words.[], Words.Option, Words.none, Words.some, Words.ℕ, Words.zero, Words.suc, Words.get_or, Words.byte}
-use Rattle.term.specs.{Number.has_one, Term.plain, Term.unary, Term.make, Term.Shape, Term.atomic, Term.compound, Term.Term, Term.atom, Term.atom_kind, Number.shape_of, Term.Rec, Term.leaf, Term.branch, Term.decoded, Term.void, Term.second}
+use Rattle.base.specs.{Words.Bool, Words.true, Words.false, Words.ite, Words.cond, Words.List, Words.[], Words.Option, Words.none, Words.some, Words.ℕ, Words.zero, Words.suc, Words.get_or, Words.first, Words.byte}
+use Rattle.term.specs.{Number.has_one, Term.plain, Term.unary, Term.make, Term.Shape, Term.atomic, Term.compound, Term.Term, Term.atom, Term.atom_kind, Number.shape_of, Term.Rec, Term.leaf, Term.branch, Term.decoded, Term.void, Term.second, Computed.term?}
 
 -- "four entries of 4 bytes: a letter, a one-byte count, a two-byte start", 0 to 3; "T terms, K knowledge, D derivation, V claim"
 abbrev pub letter : ℕ → ℕ
@@ -103,6 +103,13 @@ record_at s i = record_of (shape_of (kind_at s i)) (name_at s i) (x_at s i) (y_a
 -- the term of a term number, as a tree
 unfoldable pub term : List ℕ → ℕ → Term
 term s n = get_or (decoded (record_at s) (terms s)) n void
+
+-- the term t is that of number n; and the number of the term t, where it is listed: "equal terms have equal numbers"
+abbrev pub is_term : List ℕ → Term → ℕ → Bool
+is_term s t n = ite (term? t (term s n)) true false
+
+unfoldable pub number_in : List ℕ → Term → Option ℕ
+number_in s t = first (is_term s t) (terms s)
 
 -- a message in the knowledge
 abbrev pub InKnowledge : List ℕ → Term → Type 0

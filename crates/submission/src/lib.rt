@@ -305,7 +305,7 @@ fn shape_fits(s: &[u8], i: u8, t: Term) -> bool
 
 // The byte by which a record is chained, the same for equal records. The factor spreads records that have one x or one y, and those whose x
 // and y rise or fall together: at most four of 256 such have the same byte.
-fn chain_of(t: Term) -> u8
+pub fn chain_of(t: Term) -> u8
     ensures { result ≡ (21 * t.x + t.y) % 256 }
 {
     t.x.wrapping_mul(21).wrapping_add(t.y)

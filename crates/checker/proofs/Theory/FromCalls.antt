@@ -1,4 +1,4 @@
--- The demands, and the promises of A1 and A4 to A7, from what the calls themselves return: a verdict or an answer, and the page after the call.
+-- The demands, and the promises of A1 and A4 to A8, from what the calls themselves return: a verdict or an answer, and the page after the call.
 use mathlib.Core.Path.{◌≡◌, refl, sym, ap, ap₂, ◌∙◌, subst}
 use mathlib.Core.Logic.Iff
 use mathlib.Core.Logic.{◌↔◌, ◌⊎◌, inl, inr, ⊎_elim}
@@ -16,14 +16,16 @@ use Rattle.base.proofs.Says.{true_or_false, denies}
 use Rattle.base.proofs.RefusalLaws.{SomeHolds, refuses_some, Numbers, some_number, both_numbers, clear_split}
 use Rattle.term.specs.{Term.asymmetric, Term.Match, Term.Stale, Step.Deducible}
 use Rattle.submission.specs.Record.{terms, steps, p_at, second_at, guess, verifying, name_at, term, InKnowledge, guessed}
-use Rattle.submission.specs.{Body.Bodies, Body.bodies, Body.body_at, Body.bodies_of, Body.submission_of, Check.Target, Check.Claims, Check.verifier, Check.derived, Check.claims, Check.rows1and2, Check.rows1to4}
+use Rattle.submission.specs.{Body.Bodies, Body.bodies, Body.body_at, Body.bodies_of, Body.submission_of, Check.Target, Check.Claims, Check.verifier, Check.derived, Check.claims, Check.rows1and2, Check.rows1to4, Check.rows1to5}
 use Rattle.submission.proofs.Theory.ReadingRows.{first_two}
 use Rattle.form.specs.{Write.write_rows, Write.ReadsAs, Computed.write_answer, Calls.FormWritten}
 use Rattle.form.proofs.Theory.{WriteAnswer.write_exact, RoundTrip.form_promise, RoundTrip.body_length}
+use Rattle.pool.specs.{Pool.joined, Pool.join_rows, Computed.join_answer, Calls.PoolWritten, Promise.IsPool}
+use Rattle.pool.proofs.Theory.{JoinAnswer.join_exact, PoolPromise.join_promise}
 use Rattle.inverse.specs.{Inverse.inverses_rows, Inverse.InverseListed, Computed.inverses_of, Calls.InversesWritten}
 use Rattle.inverse.proofs.Theory.InversesAnswer.{inverses_exact, inverses_promise}
 use Rattle.deduction.specs.{Deduce.deducible_rows, Computed.deducible_answer}
-use Rattle.deduction.proofs.Theory.DeducibleAnswer.{deducible_exact, yes_exact, no_exact}
+use Rattle.deduction.proofs.Theory.DeducibleAnswer.{asked_iff, deducible_exact, yes_exact, no_exact}
 use Rattle.program.specs.Program.{bytes_of, program_length}
 use Rattle.machine.specs.{Run.StaleName, Run.program_rows, Run.run_rows, Run.signal, Computed.is_stale_name, Computed.run_answer}
 use Rattle.machine.proofs.Theory.{RunAnswer.says_stale_name, RunAnswer.run_exact, StaleNames.stale_exact, StaleNames.taken_clear, StaleNames.taken_fresh}
@@ -37,11 +39,20 @@ use Rattle.conditions.specs.Computed.{check_answer}
 use Rattle.readback.specs.{ReadBack.derivation_read, ReadBack.claim_read, ReadBack.bodies_read, ReadBack.bodies_length, ReadBack.read_back_rows, Computed.read_back_answer, Promise.replaced, Promise.StepRight, Calls.BodiesWritten}
 use Rattle.readback.proofs.Theory.{ReadBackAnswer.read_back_exact, RoundTrip.read_back_promise}
 use Rattle.derivation.specs.Step.{rows6and7}
-use Rattle.checker.specs.{Demand.Demand1, Shown.with_steps}
-use Rattle.checker.proofs.Theory.ShownLaws.{shown_promise}
+use Rattle.checker.specs.{Demand.Demand1, Shown.with_steps, Pooled.PoolKeeps}
+use Rattle.checker.proofs.Theory.{PooledLaws.pooled_promise, ShownLaws.shown_promise}
 
 pub demand_1 : Demand1
-demand_1 = record { check = check_exact; deducible = deducible_exact; deduction = deduction_exact; run = run_exact; write = write_exact; inverses = inverses_exact; read_back = read_back_exact }
+demand_1 = record {
+  check = check_exact;
+  deducible = deducible_exact;
+  deduction = deduction_exact;
+  run = run_exact;
+  write = write_exact;
+  join = join_exact;
+  inverses = inverses_exact;
+  read_back = read_back_exact;
+}
 
 -- a verdict and an answer tell what they stand for
 same_verdict : (v u : Verdict) → verdict_answer v ≡ verdict_answer u → v ≡ u
@@ -226,7 +237,7 @@ module _ (s : List ℕ) (t : ℕ) (page page' : List ℕ) (r : Result ℕ Refusa
     deduction_passes l =
         let (c, _) = deduction_yes.0 (k, yes) in
         let (d, _) = clear_split (deducible_rows s t) (numbered 19 (λ p. (p ≡ 1000) × (length page < 1000)) ∷ []) c in
-        let (e, _) = clear_split (rows1to4 s) (numbered 12 (λ p. (p ≡ 0) × (terms s ≤ t)) ∷ []) d in
+        let (e, _) = (asked_iff s t).0 d in
         shown_promise.passes s bytes e t k (take (4 * k) page') deduction_shows l
 
 -- A7: a call of `check` on s and page that refused with 8 and left page', and one of `deduction` for a premise of the verifying step with a sheet that
@@ -280,6 +291,40 @@ write_again s page page' r bytes w l call =
     let counted = first_two s w.read in
     let done-is = (returned r (length s) call.answer).1 (form_promise.not_refused s bytes counted (length page) l) in
     (done-is, (write_stands (bodies_of s) page page' r call (length s) done-is).0 ∙ form_promise.written_again s bytes counted)
+
+-- ---- A8: a call of `join` on a, b and page that returned r and left page'
+module _ (a b page page' : List ℕ) (r : Result ℕ Refusal) (bytes_a : Bytes a) (bytes_b : Bytes b) (call : PoolWritten a b page r page') where
+  pub join_refuses : (n p : ℕ) → (answer_of r ≡ refused n p) ↔ Refuses (join_rows a b (length page)) n p
+  join_refuses n p = Iff.trans (refuses r n p call.answer) (join_exact a b bytes_a bytes_b (length page) (refused n p))
+
+  pub join_leaves : (n p : ℕ) → answer_of r ≡ refused n p → page' ≡ page
+  join_leaves n p e = call.bytes ∙ refused_page (joined a b) page ((refuses r n p call.answer).0 e)
+
+  pub join_accepts : (n : ℕ) → (r ≡ Ok n) ↔ (Clear (join_rows a b (length page)) × (n ≡ length (joined a b)))
+  join_accepts n = Iff.trans (returned r n call.answer) (join_exact a b bytes_a bytes_b (length page) (done n))
+
+  -- where it is done with n, the pool is the first n bytes of the page, and the others are as before;
+  module _ (n : ℕ) (written : r ≡ Ok n) where
+    joined_so : join_answer a b (length page) ≡ done n
+    joined_so = (returned r n call.answer).0 written
+
+    pub join_stands : (take n page' ≡ joined a b) × (drop n page' ≡ drop n page)
+    join_stands = stands call joined_so ((join_accepts n).0 written).1
+
+    -- it has the terms and the knowledge of both, and the derivation and the claim of a;
+    pub join_pools : IsPool a b (take n page')
+    join_pools = subst (IsPool a b) (sym join_stands.0) (join_promise.pooled a b bytes_a bytes_b (length page) n joined_so)
+
+    -- what was deducible stays so, and what was accepted too, unless the pool's knowledge reaches the premises of the verifying step
+    pub join_keeps : PoolKeeps a b (take n page')
+    join_keeps = subst (PoolKeeps a b) (sym join_stands.0) (pooled_promise a b bytes_a bytes_b (length page) n joined_so)
+
+-- and one that joins a submission with itself, with page enough, gives its bytes
+pub join_itself : (a page page' : List ℕ) (r : Result ℕ Refusal) → Bytes a → Clear (rows1to5 a) → length a ≤ length page → PoolWritten a a page r page' →
+    (r ≡ Ok (length a)) × (take (length a) page' ≡ a)
+join_itself a page page' r bytes clear l call =
+    let e = (returned r (length a) call.answer).1 (join_promise.itself_done a bytes clear (length page) l) in
+    (e, (join_stands a a page page' r bytes bytes call (length a) e).0 ∙ join_promise.itself a bytes clear)
 
 -- ---- a call of `inverses` on s and page that returned r and left page'
 module _ (s page page' : List ℕ) (r : Result ℕ Refusal) (bytes : Bytes s) (call : InversesWritten s page r page') where

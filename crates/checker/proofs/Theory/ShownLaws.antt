@@ -8,17 +8,18 @@ use Rattle.base.specs.{Words.byte, Words.Bytes, Answer.done, Answer.refused, Ans
 use Rattle.base.proofs.RefusalLaws.{both_clear, refuses_split, refuses_some, some_number}
 use Rattle.term.specs.{Term.Term, Step.Deducible}
 use Rattle.submission.specs.{Record.count, Record.start, Record.terms, Record.entry_at, Record.rule_at, Record.p_at, Record.q_at, Record.second_for, Record.second_at, Record.conclusion_at, Record.verifying, Record.term, Record.InKnowledge, Body.body_at, Record.steps, Check.Claims, Check.verifier, Check.derived, Check.claims, Check.rows1and2, Check.rows1to4}
-use Rattle.submission.proofs.Theory.{ListedTerms.verifying_below, ReadingRows.claimed_clear, ReadingRows.first_four}
+use Rattle.submission.proofs.Theory.{ListedTerms.verifying_below, ReadingRows.claimed_clear, ReadingRows.first_four, ReadingRows.one_claim}
 use Rattle.form.proofs.Theory.RoundTrip.{body_length}
-use Rattle.derivation.specs.Step.{concluded, Premise, RecordFits, StepFits, Known, rows6and7}
-use Rattle.derivation.proofs.Theory.StepMeaning.{second_listed}
+use Rattle.derivation.specs.Step.{concluded, Premise, StepFits, Known, rows6and7}
+use Rattle.derivation.proofs.Theory.{LargerTables.fits_over, StepMeaning.second_listed}
+use Rattle.deduction.proofs.Theory.DeducibleAnswer.{asked_iff}
 use Rattle.deduction.specs.Deduce.{deducible_rows}
 use Rattle.witness.specs.{Deduction.rule_in, Deduction.p_in, Deduction.q_in, Deduction.conclusion_in, Deduction.PremiseIn, Deduction.KnownBefore, Deduction.Deduction, Deduction.deduction_rows, Computed.deduction_answer}
 use Rattle.witness.proofs.Theory.DeductionAnswer.{yes_exact, no_exact}
 use Rattle.program.specs.Program.{program_length}
 use Rattle.conditions.specs.{Condition.WellFormed, Condition.rows1to7, Condition.claim_rows, Computed.check_answer}
 use Rattle.conditions.proofs.Theory.{Acceptance.begun_iff, Refusal.check_exact}
-use Rattle.readback.proofs.Theory.{SameSubmissions.one_claim, SameSubmissions.term_alike, ReplacedBodies.Replacement, ReplacedBodies.replacement}
+use Rattle.readback.proofs.Theory.{SameSubmissions.term_alike, ReplacedBodies.Replacement, ReplacedBodies.replacement}
 use Rattle.checker.specs.Shown.{with_steps, ShownPromise}
 use Rattle.checker.proofs.Theory.KnownGuessLaws.{begun_numbers}
 
@@ -57,19 +58,10 @@ module _ (s : List ℕ) (b : Bytes s) (clear : Clear (rows1to4 s)) (t n : ℕ) (
     concluded_is : concluded r i ≡ term s (conclusion_in l i)
     concluded_is = ap (term r) conclusion_is ∙ same_term (conclusion_in l i)
 
-  -- a record that is right over s is right over r
-  fits_over : (k p q c : ℕ) → RecordFits s k p q c → RecordFits r k p q c
-  fits_over k p q c w = record {
-    rule_below = w.rule_below;
-    p_below = rw over.same.same_terms w.p_below;
-    q_below = rw over.same.same_terms w.q_below;
-    conclusion_below = rw over.same.same_terms w.conclusion_below;
-    unused = w.unused;
-    step = rw (same_term p, same_term (second_for k p q), same_term c) w.step;
-  }
-
   step_fits : (i : ℕ) → i < n → StepFits r i
-  step_fits i m = rw (rule_is i m, p_is i m, q_is i m, conclusion_is i m) (fits_over (rule_in l i) (p_in l i) (q_in l i) (conclusion_in l i) (d.fits i m))
+  step_fits i m =
+      let larger : (k : ℕ) → k < terms s → (k < terms r) × (term r k ≡ term s k) = λ k o. (omega (arith, over.same.same_terms), same_term k) in
+      rw (rule_is i m, p_is i m, q_is i m, conclusion_is i m) (fits_over larger (rule_in l i) (p_in l i) (q_in l i) (conclusion_in l i) (d.fits i m))
 
   second_alike : (i : ℕ) → i < n → second_at r i ≡ second_for (rule_in l i) (p_in l i) (q_in l i)
   second_alike i m = rw (rule_is i m, p_is i m, q_is i m)
@@ -104,7 +96,7 @@ module _ (s : List ℕ) (b : Bytes s) (w : WellFormed s) (room : ℕ) (enough : 
   asked_clear : (t : ℕ) → t < terms s → Clear (deduction_rows s t room)
   asked_clear t l =
       both_clear (deducible_rows s t) (numbered 19 (λ p. (p ≡ 1000) × (room < 1000)) ∷ [])
-      (both_clear (rows1to4 s) (numbered 12 (λ p. (p ≡ 0) × (terms s ≤ t)) ∷ []) (first_four s w.read) ((λ m q (_, (_, k)). omega arith), tt))
+      ((asked_iff s t).1 (first_four s w.read, l))
       ((λ m q (_, (_, k)). omega arith), tt)
 
   yes_iff : (t n : ℕ) → t < terms s → Deducible (InKnowledge s) (term s t) ↔ (deduction_answer s t room n ≡ done (suc n))
@@ -149,7 +141,7 @@ module _ (s : List ℕ) (b : Bytes s) (room p : ℕ) where
   reachable_row (derived t) (inr (_, inl h)) = absurd (let e = h.holds.0 in omega arith)
   reachable_row (derived t) (inr (_, inr (_, e))) = absurd e
 
-  refused_8 : check_answer s room ≡ refused 8 p → WellFormed s × (claims s ≡ verifier) × ((x : Term) → Premise s (verifying s) x → Deducible (InKnowledge s) x)
+  pub refused_8 : check_answer s room ≡ refused 8 p → WellFormed s × (claims s ≡ verifier) × ((x : Term) → Premise s (verifying s) x → Deducible (InKnowledge s) x)
   refused_8 e = ⊎_elim
       (λ x. absurd (let l = some_number (λ n. n ≤ 7) (rows1to7 s) 8 p (begun_numbers s) (refuses_some (rows1to7 s) 8 p x) in omega arith))
       (λ (c, x). let (w, _) = (begun_iff s b).0 c in let (v, f) = reachable_row (claims s) x in (w, v, f))

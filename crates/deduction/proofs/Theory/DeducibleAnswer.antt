@@ -17,7 +17,7 @@ use Rattle.base.specs.Answer.{Answer, done, refused, numbered, Clear, Answers}
 use Rattle.base.specs.Words.{Bytes}
 use Rattle.base.specs.Computed.{passes, fails_if, and_then}
 use Rattle.submission.specs.Record.{terms, entries, entry_at, record_at, term, InKnowledge}
-use Rattle.base.proofs.RefusalLaws.{Tells, passes_iff, answers_iff, tells_if, tells_then, clear_split}
+use Rattle.base.proofs.RefusalLaws.{Tells, passes_iff, answers_iff, tells_if, tells_then, both_clear, clear_split}
 use Rattle.submission.specs.Check.{rows1to4}
 use Rattle.submission.proofs.Theory.ReadingRows.{tells_1_to_4}
 use Rattle.submission.proofs.Theory.ListedTerms.{Listed, listed}
@@ -79,11 +79,19 @@ pub tells_asked : (s : List ℕ) → Bytes s → (n : ℕ) → Tells (and_then (
 tells_asked s b n =
     tells_then (checks1to4 s) (fails_if (not (ltb n (terms s))) 12 0) (tells_1_to_4 s b) (λ _. tells_if _ 12 0 (says_not_ltb n (terms s)))
 
+-- no row holds where checks 1 to 4 pass and the term is listed
+pub asked_iff : (s : List ℕ) (n : ℕ) → Clear (deducible_rows s n) ↔ (Clear (rows1to4 s) × (n < terms s))
+asked_iff s n =
+    let later : List (ℕ → ℕ → Type 0) = numbered 12 (λ p. (p ≡ 0) × (terms s ≤ n)) ∷ [] in (
+      λ c. let (x, y) = clear_split (rows1to4 s) later c in (x, ⊎_elim (λ l. l) (λ l. absurd (y.0 12 0 (refl, (refl, l)))) (lt_or_ge n (terms s))),
+      λ (x, l). both_clear (rows1to4 s) later x ((λ m q (_, (_, k)). omega arith), tt),
+    )
+
 -- where they pass, the test says whether the term is deducible
 pub says_deducible : (s : List ℕ) → Bytes s → (n : ℕ) → Clear (deducible_rows s n) → Says (is_deducible s (entry_marks s) n) (Deducible (InKnowledge s) (term s n))
 says_deducible s b n c =
-    let (x, y) = clear_split (rows1to4 s) (numbered 12 (λ p. (p ≡ 0) × (terms s ≤ n)) ∷ []) c in
-    deducible_iff (listed s b ((passes_iff (tells_1_to_4 s b)).1 x)) n (⊎_elim (λ l. l) (λ l. absurd (y.0 12 0 (refl, (refl, l)))) (lt_or_ge n (terms s)))
+    let (x, l) = (asked_iff s n).0 c in
+    deducible_iff (listed s b ((passes_iff (tells_1_to_4 s b)).1 x)) n l
 
 -- Deducible answers as rows 1 to 4 and row 12 say, and else 1 exactly where a finite list of steps reaches the term: "A term is deducible if a finite
 -- list of such steps reaches it from the knowledge alone, over all terms, not only those listed."

@@ -1,18 +1,18 @@
 -- Reading what was written gives the four bodies again, and writing the bodies of a submission gives its bytes.
-use mathlib.Core.Path.{◌≡◌, refl, sym, ap}
-use mathlib.Core.Logic.{◌⊎◌}
+use mathlib.Core.Path.{◌≡◌, refl, sym, ap, ◌∙◌}
+use mathlib.Core.Logic.{◌⊎◌, ⊎_elim}
 use mathlib.Core.List.{List, [], ◌++◌, append_assoc, append-nil}
 use Prim.Native.Nat.{ℕ, ◌+◌, ◌*◌, ◌≤◌, ◌<◌}
 use native.Mathlib.Omega.{arith}
 use lib.ListN.{length, take, drop, length-append, length-drop}
-use lib.Seq.{take_at, drop_at, take-add, take_all, length-take-le}
-use Rattle.base.specs.Words.{Bytes}
+use lib.Seq.{take_at, drop_at, take-add, take_all, length-take-le, get_or-take, get_or-drop}
+use Rattle.base.specs.Words.{byte, Bytes}
 use Rattle.base.specs.Answer.{done, Clear}
 use Rattle.base.proofs.{RefusalLaws.passes_iff, Says.each_of_four}
 use Rattle.submission.specs.Record.{count, width, least, most, start_of, start}
 use Rattle.submission.specs.Body.{Bodies, body, records, body_at, bodies_of, contents, submission_of}
 use Rattle.submission.specs.Check.{rows1and2}
-use Rattle.submission.proofs.Theory.{ContentsMeant.contents_length, ReadingRows.tells_limits, ReadingRows.contents_fit}
+use Rattle.submission.proofs.Theory.{ContentsMeant.contents_length, ReadingRows.tells_limits, ReadingRows.contents_fit, ReadingRows.counts_within}
 use Rattle.form.specs.{Write.ReadsAs, Write.FormPromise, Computed.write_answer, Code.Writable}
 use Rattle.form.proofs.Theory.WritableBodies.{StartsAt, starts}
 use Rattle.form.proofs.Theory.WriteAnswer.{write_exact, written_writable}
@@ -72,6 +72,29 @@ module _ (b : Bodies) where
         within : (m q : ℕ) → m ≡ 2 → q < 4 → (count (submission_of b) q < least q) ⊎ (most q < count (submission_of b) q) → ⊥
         within m q e l h = ((passes_iff (tells_limits (records b))).0 w.limited).0 2 q (refl, (l, rw (counts q l) at h))
 
+-- ---- whole bodies within their limits make a submission that passes checks 1 and 2
+module _ (b : Bodies) (n : ℕ → ℕ) (whole : (i : ℕ) → i < 4 → length (body b i) ≡ width i * n i) (within : (i : ℕ) → i < 4 → (least i ≤ n i) × (n i ≤ most i)) where
+  pub counted : (i : ℕ) → i < 4 → records b i ≡ n i
+  counted =
+      each_of_four (λ i. records b i ≡ n i)
+      (omega (arith, whole 0 (omega arith))) (omega (arith, whole 1 (omega arith))) (omega (arith, whole 2 (omega arith))) (omega (arith, whole 3 (omega arith)))
+
+  limit : (q : ℕ) → q < 4 → (records b q < least q) ⊎ (most q < records b q) → ⊥
+  limit q l h = let (x, y) = within q l in let e = counted q l in ⊎_elim (λ a. omega arith) (λ a. omega arith) h
+
+  -- with page enough nothing refuses them
+  pub whole_written : (room : ℕ) → length (submission_of b) ≤ room → write_answer b room ≡ done (length (submission_of b))
+  whole_written room r =
+      (write_exact b room (done (length (submission_of b)))).1
+      (((λ m q (_, (_, (i, l, ragged))). ragged (n i) (whole i l)), ((λ m q (_, (l, h)). limit q l h), ((λ m q (_, (_, l)). omega arith), tt))), refl)
+
+  pub reads_as : ReadsAs (submission_of b) b
+  reads_as = reads_again b (written_writable b (length (submission_of b)) (whole_written (length (submission_of b)) (omega arith)))
+
+-- ---- a byte of a body, where the body starts
+pub body_byte : (s : List ℕ) (k i : ℕ) → i < width k * count s k → byte (body_at s k) i ≡ byte s (start s k + i)
+body_byte s k i l = get_or-take (width k * count s k) (drop (start s k) s) i 0 l ∙ get_or-drop (start s k) s i 0
+
 -- ---- writing what was read
 module _ (s : List ℕ) (bytes : Bytes s) (clear : Clear (rows1and2 s)) where
   -- the bodies' lengths
@@ -84,10 +107,12 @@ module _ (s : List ℕ) (bytes : Bytes s) (clear : Clear (rows1and2 s)) where
       fits : (i : ℕ) → width i * count s i + start s i ≤ length s → length (body_at s i) ≡ width i * count s i
       fits i l = length-take-le (width i * count s i) (drop (start s i) s) (rw (length-drop (start s i) s) (omega arith))
 
+  whole_again : (i : ℕ) → i < 4 → length (body (bodies_of s) i) ≡ width i * count s i
+  whole_again =
+      each_of_four (λ i. length (body (bodies_of s) i) ≡ width i * count s i) (body_length 0 (omega arith)) (body_length 1 (omega arith)) (body_length 2 (omega arith)) (body_length 3 (omega arith))
+
   counts_again : (i : ℕ) → i < 4 → records (bodies_of s) i ≡ count s i
-  counts_again =
-      each_of_four (λ i. records (bodies_of s) i ≡ count s i)
-      (omega (arith, body_length 0 (omega arith))) (omega (arith, body_length 1 (omega arith))) (omega (arith, body_length 2 (omega arith))) (omega (arith, body_length 3 (omega arith)))
+  counts_again = counted (bodies_of s) (count s) whole_again (counts_within s clear)
 
   contents_again : contents (records (bodies_of s)) ≡ contents (count s)
   unfolding contents start_of
@@ -104,10 +129,7 @@ module _ (s : List ℕ) (bytes : Bytes s) (clear : Clear (rows1and2 s)) where
   pub accepted_again : (room : ℕ) → length s ≤ room → write_answer (bodies_of s) room ≡ done (length s)
   accepted_again room r =
       let e : length (submission_of (bodies_of s)) ≡ length s = ap length written_again_lem in
-      let whole = each_of_four (λ i. length (body (bodies_of s) i) ≡ width i * count s i) (body_length 0 (omega arith)) (body_length 1 (omega arith)) (body_length 2 (omega arith)) (body_length 3 (omega arith)) in
-      let limit : (q : ℕ) → q < 4 → (records (bodies_of s) q < least q) ⊎ (most q < records (bodies_of s) q) → ⊥ = λ q l h. clear.1.0 2 q (refl, (l, rw (counts_again q l) at h)) in
-      (write_exact (bodies_of s) room (done (length s))).1
-      (((λ m q (_, (_, (i, l, ragged))). ragged (count s i) (whole i l)), ((λ m q (_, (l, h)). limit q l h), ((λ m q (_, (_, l)). omega arith), tt))), sym e)
+      whole_written (bodies_of s) (count s) whole_again (counts_within s clear) room (omega arith) ∙ ap done e
 
 pub form_promise : FormPromise
 form_promise = record {

@@ -12,12 +12,11 @@ use borrow.Author.Tests.{lt-ltb, le-ltb, eq-eqb, ne_eqb}
 use lib.Dec.{eqb, ltb}
 use Rattle.base.specs.Words.{Bytes, byte, fours}
 use Rattle.base.specs.Answer.{Clear}
-use Rattle.base.proofs.Order.{lt_or_ge}
 use Rattle.term.specs.Number.{has_one}
-use Rattle.submission.specs.Record.{count, start, start_of, terms, entries, steps, rule_at, p_at, q_at, second_for, conclusion_at, guess, verifying, way_at, companion, entry_at, name_at, term}
+use Rattle.submission.specs.Record.{start, start_of, terms, entries, steps, rule_at, p_at, q_at, second_for, conclusion_at, guess, verifying, way_at, companion, entry_at, name_at, term}
 use Rattle.submission.specs.Body.{body_at}
 use Rattle.submission.specs.Check.{Way, another_step, at_start, inverse_key, guess_derived, inverse_derived, way_of, Target, the_guess, its_inverse, claims_in, InRange, knowledge_step, given_register, row, rows1and2}
-use Rattle.submission.proofs.Theory.{ListedTerms.Claimed, ListedTerms.way_letter, ReadingRows.claimed_clear, ReadingRows.contents_fit, ReadingRows.first_two}
+use Rattle.submission.proofs.Theory.{ListedTerms.Claimed, ListedTerms.way_letter, ReadingRows.claimed_clear, ReadingRows.contents_fit, ReadingRows.first_two, ReadingRows.one_claim}
 use Rattle.derivation.specs.{Step.written, Step.concluded, Computed.is_known}
 use Rattle.derivation.proofs.Theory.RegisterTerms.{Written, entry, guessed, result, written_cases}
 use Rattle.program.specs.Program.{relation_of, bytes_of, test_at, Instruction}
@@ -105,14 +104,9 @@ module _ (s : List ℕ) (bytes : Bytes s) (w : WellFormed s) (c₀ : FiveConditi
       rw (instruction_read s i l, number_lowest i (p_at s i) (omega arith) (w.shaped i l).p_below p, own_second i l, listed_number claim.read P (written s i) (conclusion_at s i) (w.shaped i l).conclusion_below (held_result i l))
 
   -- the bodies reach to the submission's end
-  one_claim : count s 3 ≡ 1
-  one_claim =
-      let f = counted.1.0 2 3 in
-      ⊎_elim (λ l. absurd (f (refl, (omega arith, inl l)))) (λ l. ⊎_elim (λ h. absurd (f (refl, (omega arith, inr h)))) (λ h. omega arith) (lt_or_ge 1 (count s 3))) (lt_or_ge (count s 3) 1)
-
   whole : length s ≡ start s 2 + 4 * steps s + 4
   unfolding start_of
-  whole = (contents_fit s bytes counted).1 ∙ rw one_claim
+  whole = (contents_fit s bytes counted).1 ∙ rw (one_claim s counted)
 
   claim_start : start s 3 ≡ start s 2 + 4 * steps s
   unfolding start_of
@@ -141,7 +135,7 @@ module _ (s : List ℕ) (bytes : Bytes s) (w : WellFormed s) (c₀ : FiveConditi
   claim_bytes =
       let l : 4 ≤ length (drop (start s 3) s) = rw (length-drop (start s 3) s) (omega (arith, whole, claim_start)) in
       let z : byte (drop (start s 3) s) 0 ≡ guess s = get_or-drop (start s 3) s 0 0 ∙ ap (byte s) (omega arith) in
-      ap (λ k. take (4 * k) (drop (start s 3) s)) one_claim ∙ four_first (drop (start s 3) s) l ∙ rw (z, get_or-drop (start s 3) s 1 0, get_or-drop (start s 3) s 2 0, get_or-drop (start s 3) s 3 0)
+      ap (λ k. take (4 * k) (drop (start s 3) s)) (one_claim s counted) ∙ four_first (drop (start s 3) s) l ∙ rw (z, get_or-drop (start s 3) s 1 0, get_or-drop (start s 3) s 2 0, get_or-drop (start s 3) s 3 0)
 
   -- what is read of a test
   abbrev Read : Instruction → List ℕ

@@ -1,6 +1,6 @@
 -- The bodies read back, in the place of a submission's own: the submission passes checks 1 to 4, and each step is one of the table of steps.
 use mathlib.Core.Path.{◌≡◌, refl, sym, ap, ap₂, ◌∙◌, subst}
-use mathlib.Core.Logic.{◌⊎◌, inl, inr, ⊎_elim}
+use mathlib.Core.Logic.{◌⊎◌, inl, inr}
 use mathlib.Core.Bool.{Bool, true, false, cond}
 use mathlib.Core.List.{List, [], ◌∷◌}
 use Prim.Native.Nat.{ℕ, ◌+◌, ◌*◌, ◌≤◌, ◌<◌}
@@ -11,11 +11,11 @@ use Rattle.base.proofs.{Fours.fours_length, Fours.fours_at, Says.denies, Says.re
 use Rattle.term.specs.{Term.Head, Term.Second, Term.absent, Term.anything, Term.key_for, Term.second, Term.Shape, Term.atomic, Term.compound, Term.is_key_for, Term.single, Term.void, Number.shape_of, Number.head_of, Number.has_one, Reduce.op, Step.Step, Code.Message}
 use Rattle.term.proofs.Reduce.{op_step}
 use Rattle.submission.specs.Record.{count, width, least, most, start, terms, entries, steps, kind_at, y_at, entry_at, rule_at, p_at, q_at, second_for, second_at, conclusion_at, guess, name_at, term}
-use Rattle.submission.specs.Body.{Bodies, bodies, body, records, body_at, submission_of}
+use Rattle.submission.specs.Body.{Bodies, bodies, body, body_at, submission_of}
 use Rattle.submission.specs.Check.{HasSecond, Shaped, BadTerm, rows1and2, rows1to4, rows1to5}
 use Rattle.submission.proofs.Theory.{ListedTerms.Listed, ListedTerms.listed, ListedTerms.Claimed, ReadingRows.tells_1_to_4, ReadingRows.claimed_clear, ReadingRows.first_four}
 use Rattle.form.specs.Write.{ReadsAs}
-use Rattle.form.proofs.Theory.{WriteAnswer.write_exact, RoundTrip.form_promise, RoundTrip.counts, RoundTrip.body_length}
+use Rattle.form.proofs.Theory.{RoundTrip.counts, RoundTrip.counted, RoundTrip.reads_as, RoundTrip.body_length, RoundTrip.body_byte}
 use Rattle.derivation.specs.Step.{concluded, StepFits, written}
 use Rattle.program.specs.{Program.Instruction, Program.instruction_at, Program.operand, Program.ProgramFits}
 use Rattle.program.proofs.Theory.Check13.{program_iff, operand_fits}
@@ -23,23 +23,7 @@ use Rattle.machine.specs.Run.{registers, executed, held, program_rows}
 use Rattle.machine.proofs.Theory.RunRegisters.{register_kept, register_written}
 use Rattle.readback.specs.{ReadBack.number, ReadBack.step_read, ReadBack.derivation_read, ReadBack.claim_read, ReadBack.bodies_read, ReadBack.bodies_length, ReadBack.read_back_rows, Computed.read_back_answer, Computed.off_table, Promise.replaced, Promise.SameStart, Promise.StepRight}
 use Rattle.readback.proofs.Theory.ReadBackAnswer.{says_off_table, later_rows, read_back_exact, number_found}
-use Rattle.readback.proofs.Theory.SameSubmissions.{body_byte, Agree, agree, term_alike}
-
--- ---- whole bodies within their limits make a submission that passes checks 1 and 2
-module _ (b : Bodies) (n : ℕ → ℕ) (whole : (i : ℕ) → i < 4 → length (body b i) ≡ width i * n i) (within : (i : ℕ) → i < 4 → (least i ≤ n i) × (n i ≤ most i)) where
-  pub counted : (i : ℕ) → i < 4 → records b i ≡ n i
-  counted =
-      each_of_four (λ i. records b i ≡ n i)
-      (omega (arith, whole 0 (omega arith))) (omega (arith, whole 1 (omega arith))) (omega (arith, whole 2 (omega arith))) (omega (arith, whole 3 (omega arith)))
-
-  limit : (q : ℕ) → q < 4 → (records b q < least q) ⊎ (most q < records b q) → ⊥
-  limit q l h = let (x, y) = within q l in let e = counted q l in ⊎_elim (λ a. omega arith) (λ a. omega arith) h
-
-  pub reads_as : ReadsAs (submission_of b) b
-  reads_as =
-      form_promise.read_again b (length (submission_of b)) (length (submission_of b))
-      ((write_exact b (length (submission_of b)) (done (length (submission_of b)))).1
-      (((λ m q (_, (_, (i, l, ragged))). ragged (n i) (whole i l)), ((λ m q (_, (l, h)). limit q l h), ((λ m q (_, (_, l)). omega arith), tt))), refl))
+use Rattle.readback.proofs.Theory.SameSubmissions.{Agree, agree, term_alike}
 
 -- ---- the records of the steps
 steps_length : (s P : List ℕ) → length (derivation_read s P) ≡ 4 * byte P 0

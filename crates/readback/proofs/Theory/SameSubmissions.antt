@@ -1,19 +1,18 @@
 -- Two submissions over the same terms, knowledge and guess: the machine holds the same terms, and the same bodies are read back.
 use mathlib.Core.Path.{◌≡◌, refl, sym, ap, ap₂, ◌∙◌}
-use mathlib.Core.Logic.{inl, inr, ⊎_elim, ite}
+use mathlib.Core.Logic.{ite}
 use mathlib.Core.Bool.{true, false}
 use mathlib.Core.Option.{none, some}
 use mathlib.Core.List.{List, [], ◌∷◌, ◌++◌}
 use Prim.Native.Nat.{ℕ, ◌+◌, ◌*◌, ◌<◌}
 use native.Mathlib.Omega.{arith}
-use lib.ListN.{length, get_or, drop}
-use lib.Seq.{get_or-take, get_or-drop}
+use lib.ListN.{length, get_or}
 use Rattle.base.specs.Words.{Bytes, byte, first, fours, grow, listed}
 use Rattle.base.specs.Answer.{Clear}
-use Rattle.base.proofs.{Fours.fours_alike, Order.lt_or_ge, Grow.grow_alike, First.first_equal}
+use Rattle.base.proofs.{Fours.fours_alike, Grow.grow_alike, First.first_equal}
 use Rattle.term.specs.Term.{atom, atom_kind, void, decoded}
 use Rattle.term.specs.Computed.{term?}
-use Rattle.submission.specs.Record.{count, width, start, terms, entries, kind_at, x_at, y_at, name_at, entry_at, guess, record_at, term, guessed}
+use Rattle.submission.specs.Record.{terms, entries, kind_at, x_at, y_at, name_at, entry_at, guess, record_at, term, guessed}
 use Rattle.term.specs.Number.{shape_of}
 use Rattle.submission.specs.Body.{body_at}
 use Rattle.submission.specs.Check.{Range, step_number, term_number, zero_only, step_or_knowledge, row, rows1and2}
@@ -21,18 +20,8 @@ use Rattle.derivation.specs.Step.{written}
 use Rattle.program.specs.Program.{Instruction, instruction_at, test_at}
 use Rattle.machine.specs.Run.{initial, executed, registers, held}
 use Rattle.machine.proofs.Theory.StateGrowth.{decoded_alike}
-use Rattle.form.proofs.Theory.RoundTrip.{body_length}
+use Rattle.form.proofs.Theory.{RoundTrip.body_length, SameBodies.same_byte, SameBodies.same_field}
 use Rattle.readback.specs.{ReadBack.holds_number, ReadBack.number, ReadBack.step_read, ReadBack.way_read, ReadBack.verifying_read, ReadBack.companion_read, ReadBack.claim_read}
-
--- a byte of a body, where the body starts
-pub body_byte : (s : List ℕ) (k i : ℕ) → i < width k * count s k → byte (body_at s k) i ≡ byte s (start s k + i)
-body_byte s k i l = get_or-take (width k * count s k) (drop (start s k) s) i 0 l ∙ get_or-drop (start s k) s i 0
-
--- "V exactly 1"
-pub one_claim : (s : List ℕ) → Clear (rows1and2 s) → count s 3 ≡ 1
-one_claim s c =
-    let f = c.1.0 2 3 in
-    ⊎_elim (λ l. absurd (f (refl, (omega arith, inl l)))) (λ l. ⊎_elim (λ h. absurd (f (refl, (omega arith, inr h)))) (λ h. omega arith) (lt_or_ge 1 (count s 3))) (lt_or_ge (count s 3) 1)
 
 -- the same counts, and the same bytes of terms and knowledge
 pub record Agree (s s' : List ℕ) : Type 0 where
@@ -44,23 +33,14 @@ pub record Agree (s s' : List ℕ) : Type 0 where
   pub knowledge : (i : ℕ) → i < entries s → entry_at s i ≡ entry_at s' i
 
 module _ (s s' : List ℕ) (t : terms s ≡ terms s') (e : entries s ≡ entries s') (b : body_at s 0 ≡ body_at s' 0) (k : body_at s 1 ≡ body_at s' 1) where
-  term_byte : (i : ℕ) → i < 3 * terms s → byte s (start s 0 + i) ≡ byte s' (start s' 0 + i)
-  term_byte i l = sym (body_byte s 0 i l) ∙ ap (λ x. byte x i) b ∙ body_byte s' 0 i (omega arith)
-
-  later_byte : (i j : ℕ) → i + j < 3 * terms s → byte s (start s 0 + i + j) ≡ byte s' (start s' 0 + i + j)
-  later_byte i j l =
-      let f : start s 0 + i + j ≡ start s 0 + (i + j) = omega arith in
-      let g : start s' 0 + i + j ≡ start s' 0 + (i + j) = omega arith in
-      ap (byte s) f ∙ term_byte (i + j) l ∙ sym (ap (byte s') g)
-
   pub agree : Agree s s'
   agree = record {
     same_terms = t;
     same_entries = e;
-    kinds = λ i l. term_byte (3 * i) (omega arith);
-    xs = λ i l. later_byte (3 * i) 1 (omega arith);
-    ys = λ i l. later_byte (3 * i) 2 (omega arith);
-    knowledge = λ i l. sym (body_byte s 1 i (omega arith)) ∙ ap (λ x. byte x i) k ∙ body_byte s' 1 i (omega arith);
+    kinds = λ i l. same_byte s s' 0 t b (3 * i) (omega arith);
+    xs = λ i l. same_field s s' 0 t b (3 * i) 1 (omega arith);
+    ys = λ i l. same_field s s' 0 t b (3 * i) 2 (omega arith);
+    knowledge = λ i l. same_byte s s' 1 e k i (omega arith);
   }
 
 -- submissions with the same bodies of terms and knowledge

@@ -82,7 +82,7 @@ module _ (s : List ℕ) (bytes : Bytes s) (all : (i : ℕ) → i < terms s → G
 
 -- ---- a record's term, by its kind
 module _ (s : List ℕ) (bytes : Bytes s) (all : (i : ℕ) → i < terms s → Good s i) (t : Table (record_at s) (terms s) (term s)) where
-  term_at_lem : (i : ℕ) (z : Shape) → i < terms s → shape_of (kind_at s i) ≡ some z → term s i ≡ message (term s) (record_of (some z) (name_at s i) (x_at s i) (y_at s i))
+  pub term_at_lem : (i : ℕ) (z : Shape) → i < terms s → shape_of (kind_at s i) ≡ some z → term s i ≡ message (term s) (record_of (some z) (name_at s i) (x_at s i) (y_at s i))
   term_at_lem i z l e = t.reads i l ∙ ap (message (term s)) (record_at_lem s i z e)
 
   term_of_kind : (i : ℕ) (z : Shape) → i < terms s → kind_at s i ≡ kind_of z → term s i ≡ message (term s) (record_of (some z) (name_at s i) (x_at s i) (y_at s i))
@@ -100,7 +100,7 @@ module _ (s : List ℕ) (bytes : Bytes s) (all : (i : ℕ) → i < terms s → G
       go (compound h') h = let u = sym (term_at_lem i (compound h') l h) ∙ e in absurd (let o : ◌≡◌ {A = ℕ} 0 1 = cc in omega arith)
 
   -- a term is of the shape of its record
-  shape_of_lem : (i : ℕ) → i < terms s → shape (term s i) ≡ shape_of (kind_at s i)
+  pub shape_of_lem : (i : ℕ) → i < terms s → shape (term s i) ≡ shape_of (kind_at s i)
   shape_of_lem i l = go (all i l).shape (all i l).has
     where
       go : (z : Shape) → shape_of (kind_at s i) ≡ some z → shape (term s i) ≡ shape_of (kind_at s i)

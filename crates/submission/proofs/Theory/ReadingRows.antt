@@ -1,16 +1,18 @@
 -- Checks 1 to 5 answer as rows 1 to 5 of the table of verdicts say.
-use mathlib.Core.Path.{refl}
-use mathlib.Core.Logic.{⊎_elim}
+use mathlib.Core.Path.{◌≡◌, refl}
+use mathlib.Core.Logic.{inl, inr, ⊎_elim}
 use mathlib.Core.Bool.{not}
 use mathlib.Core.List.{List, [], ◌∷◌}
-use Prim.Native.Nat.{ℕ}
+use Prim.Native.Nat.{ℕ, ◌≤◌, ◌<◌}
+use native.Mathlib.Omega.{arith}
 use lib.Dec.{eqb}
 use Rattle.base.specs.Words.{Bytes, first}
 use Rattle.base.specs.Answer.{Clear}
 use Rattle.base.specs.Computed.{fails_at, fails_if}
+use Rattle.base.proofs.Order.{lt_or_ge}
 use Rattle.base.proofs.Says.{Says, says_eqb, says_ltb, says_not_ltb, says_or, says_not, says_any, refutes, true_or_false}
 use Rattle.base.proofs.RefusalLaws.{Tells, passes_iff, tells_if, tells_at, tells_then}
-use Rattle.submission.specs.Record.{count, terms, entries, entry_at}
+use Rattle.submission.specs.Record.{count, least, most, terms, entries, entry_at}
 use Rattle.submission.specs.Check.{ContentsFit, row2, rows1and2, rows1to4, rows1to5}
 use Rattle.submission.specs.Computed.{bad_contents, bad_count, check_limits, bad_term, bad_knowledge, good_claim, checks1to4, checks1to5}
 use Rattle.submission.proofs.Theory.ContentsMeant.{contents_iff}
@@ -44,6 +46,16 @@ claimed_clear s b c = claimed s b ((passes_iff (tells_1_to_5 s b)).1 c)
 pub contents_fit : (s : List ℕ) → Bytes s → Clear (rows1and2 s) → ContentsFit s
 contents_fit s b c =
     ⊎_elim (λ t. absurd (c.0 1 0 (refl, (refl, (says_bad_contents s b).0 t)))) (contents_iff s b).0 (true_or_false (bad_contents s))
+
+-- the counts are within their limits: "V exactly 1"
+pub counts_within : (s : List ℕ) → Clear (rows1and2 s) → (i : ℕ) → i < 4 → (least i ≤ count s i) × (count s i ≤ most i)
+counts_within s c i l = (
+  ⊎_elim (λ h. absurd (c.1.0 2 i (refl, (l, inl h)))) (λ h. h) (lt_or_ge (count s i) (least i)),
+  ⊎_elim (λ h. absurd (c.1.0 2 i (refl, (l, inr h)))) (λ h. h) (lt_or_ge (most i) (count s i)),
+)
+
+pub one_claim : (s : List ℕ) → Clear (rows1and2 s) → count s 3 ≡ 1
+one_claim s c = let (l, m) = counts_within s c 3 (omega arith) in omega arith
 
 -- the first of the rows
 pub first_four : (s : List ℕ) → Clear (rows1to5 s) → Clear (rows1to4 s)

@@ -1,0 +1,56 @@
+-- What the loops put: the records of the missing terms, and the entries that are new.
+use mathlib.Core.Path.{◌≡◌, refl, sym, ap, ◌∙◌}
+use mathlib.Core.Bool.{Bool, true, false, cond}
+use mathlib.Core.List.{List, [], ◌∷◌, ◌++◌, append-nil}
+use Prim.Native.Nat.{ℕ, ◌+◌, ◌≤◌, ◌<◌}
+use native.Mathlib.Numerals.{add-one}
+use native.Mathlib.Omega.{arith}
+use lib.Dec.{ltb}
+use lib.ListN.{length, take, length-append}
+use Rattle.std.specs.Prelude.{Result, Err}
+use Rattle.std.specs.List.{flat_map}
+use Rattle.std.proofs.lemmas.Grind.{flat_map-append}
+use Rattle.base.specs.declared.refusal.Refusal.{Refusal}
+use Rattle.base.specs.declared.writer.Writer.{Writer}
+use Rattle.base.specs.{Code.Wrote, Code.check_of, Computed.fails_if}
+use Rattle.base.proofs.{RefusalLaws.passes_iff, AnswerLaws.fails_not_passes, Says.says_ltb, PutLaws.wrote_none, PutLaws.wrote_then, PutLaws.wrote_out, PutLaws.puts_whole}
+use Rattle.submission.specs.{Record.most, Body.body_at, Code.TableRead}
+use Rattle.submission.proofs.Theory.ReadingRows.{tells_1_to_4}
+use Rattle.form.proofs.Theory.RoundTrip.{body_length}
+use Rattle.pool.specs.declared.numbers.Numbers.{Numbers}
+use Rattle.pool.specs.Pool.{is_missing, missing, renumbered}
+use Rattle.pool.specs.Code.{missing_records, check_most, Noted}
+use Rattle.pool.proofs.TermReturns.{above_most}
+use Rattle.pool.proofs.Theory.{PoolBodies.renumbered_length, PoolLists.threes_length, PoolNumbers.missing_none, PoolNumbers.missing_more}
+
+-- where n are too many, so are more
+pub most_reached : {T : Type 0} {r : Result T Refusal} {x : Refusal} (i : ℕ) {n m : ℕ} → check_of r ≡ check_most i n → r ≡ Err x → n ≤ m → check_of r ≡ check_most i m
+most_reached {r = r} i {n} {m} e f l = go (ltb (most i) n) refl e
+  where
+    go : (t : Bool) → ltb (most i) n ≡ t → check_of r ≡ fails_if t 20 0 → check_of r ≡ check_most i m
+    go true g h = h ∙ above_most i m (let k : most i < n = (says_ltb (most i) n).0 g in omega arith)
+    go false g h = fails_not_passes (sym (ap check_of f) ∙ h)
+
+-- ---- the records
+pub records_none : (a b : List ℕ) {w : Writer} → Wrote w (missing_records a b 0) w
+records_none a b = rw (missing_none a b) wrote_none
+
+pub records_more : (a b : List ℕ) (j : ℕ) {u v w : Writer} → Wrote u (missing_records a b j) v → Wrote v (cond (is_missing a b j) (renumbered a b j) []) w → Wrote u (missing_records a b (j + 1)) w
+records_more a b j {v = v} {w} p q = rw (add-one j, missing_more a b j, flat_map-append (renumbered a b) (missing a b j) (cond (is_missing a b j) (j ∷ []) [])) (wrote_then p (go (is_missing a b j) q))
+  where
+    go : (t : Bool) → Wrote v (cond t (renumbered a b j) []) w → Wrote v (flat_map (renumbered a b) (cond t (j ∷ []) [])) w
+    go true q = rw (append-nil (renumbered a b j)) q
+    go false q = q
+
+-- ---- a buffer that was filled from its start with x and then with y, for which there is room
+pub filled : {d x y t : List ℕ} {u v w : Writer} {n : ℕ} → u.buffer.now ≡ d → length d ≡ n → u.at ≡ 0 → t ≡ x → Wrote u t v → Wrote v y w → length (x ++ y) ≤ n →
+    (w.at ≤ n) × (take w.at w.buffer.now ≡ x ++ y)
+filled {y = y} e m f g p q l =
+    let (k, h) = puts_whole (wrote_out (wrote_then p q) e f refl) (rw (← g, ← m) at l) in
+    (omega (arith, k, l, ap (λ (z : List ℕ). length (z ++ y)) g), h ∙ rw g)
+
+-- the pool's terms are no longer than the most are
+pub terms_room : {a b : List ℕ} {n : ℕ} {numbers : Numbers} → TableRead a → Noted a b n numbers → length (body_at a 0 ++ missing_records a b n) ≤ 750
+terms_room {a} {b} {n} z p =
+    let c = (passes_iff (tells_1_to_4 a z.bytes)).0 z.passed in
+    omega (arith, length-append (body_at a 0) (missing_records a b n), p.next, p.few, body_length a z.bytes (c.0, (c.1.0, tt)) 0 (omega arith), threes_length (renumbered a b) (renumbered_length a b) (missing a b n))
