@@ -1,4 +1,5 @@
 -- Theory: laws and theorems about the definitions. What is beside it serves the proofs of single functions.
+pub mod Examples
 pub mod JoinAnswer
 pub mod MappedRecord
 pub mod PoolBodies

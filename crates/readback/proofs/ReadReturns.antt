@@ -17,6 +17,7 @@ use Rattle.base.specs.declared.writer.Writer.{Writer}
 use Rattle.base.proofs.{Order.lt_or_ge, Find.FoundIn, Says.denies, Says.none_fails, AnswerLaws.at_passes}
 use Rattle.term.specs.{Code.relation_is, Number.has_one}
 use Rattle.term.specs.declared.Relation.{Relation as RelationGiven}
+use Rattle.submission.proofs.Theory.ListedTerms.{claim_facts}
 use Rattle.submission.specs.{Record.terms, Record.entries, Code.SubmissionRead, Code.way_is, Code.range_is, Code.IsRow, Code.IsClaim, Check.row}
 use Rattle.submission.specs.declared.Range.{Range as RangeRead}
 use Rattle.submission.specs.declared.Row.{Row as RowRead}
@@ -28,7 +29,6 @@ use Rattle.program.specs.declared.Test.{Test as TestRead}
 use Rattle.program.specs.{Program.relation_of, Program.instruction_at, Program.test_at, Program.RegistersFit, Code.instruction_in, Code.test_in, Computed.bad_program}
 use Rattle.program.proofs.Theory.Check13.{program_iff, right_fits}
 use Rattle.machine.specs.Code.{RegisterNumbers}
-use Rattle.machine.proofs.Theory.StartState.{facts}
 use Rattle.readback.specs.ReadBack.{number, step_read, way_from, way_read, verifying_read, companion_read, claim_read}
 use Rattle.readback.specs.Computed.{off_table}
 use Rattle.readback.specs.Code.{Numbered}
@@ -50,7 +50,7 @@ module _ {s P l : List ℕ} {t v n : ℕ} (z : RegisterNumbers s P l) (te : t �
 
 -- there are at most 256 registers
 pub few_registers : {s : List ℕ} (P : List ℕ) → SubmissionRead s → bad_program s P ≡ false → written s (byte P 0) ≤ 256
-few_registers {s} P u g = omega (arith, (facts u).read.entries_most, ((program_iff s P).0 g).few)
+few_registers {s} P u g = omega (arith, (claim_facts u).read.entries_most, ((program_iff s P).0 g).few)
 
 -- the registers' numbers, where check 17 passed
 pub all_numbered : {s P l : List ℕ} {T : Type 0} {u : Result T Refusal} {x : T} → SubmissionRead s → bad_program s P ≡ false → RegisterNumbers s P l → check_of u ≡ fails_at 17 (first (off_table s P) (written s (byte P 0))) → u ≡ Ok x → Numbered s P l
@@ -64,7 +64,7 @@ all_numbered {s} {P} {l} w g z e p =
       table = on;
       long = z.long;
       below = below;
-      is = λ r b. sym (listed_number (facts w).read P r (get_or l r 0) (below r b) (sym (z.listed r b (below r b))));
+      is = λ r b. sym (listed_number (claim_facts w).read P r (get_or l r 0) (below r b) (sym (z.listed r b (below r b))));
     }
 
 -- ---- the records
@@ -74,15 +74,15 @@ module _ {s P l : List ℕ} (z : Numbered s P l) where
 
   -- the numbers are bytes
   byte_number : (r : ℕ) → r < written s (byte P 0) → get_or l r 0 < 256
-  byte_number r b = let h = z.below r b in omega (arith, (facts z.read).read.terms_most)
+  byte_number r b = let h = z.below r b in omega (arith, (claim_facts z.read).read.terms_most)
 
   module _ {i : ℕ} (b : i < byte P 0) where
     module _ {k : ℕ} (ke : k ≡ entries s) where
       pub result_fits : Fits w8 (k + 1)
-      result_fits = record { fits = omega (arith, (facts z.read).read.entries_most) }
+      result_fits = record { fits = omega (arith, (claim_facts z.read).read.entries_most) }
 
       pub result_fits_2 : Fits w8 (k + 1 + i)
-      result_fits_2 = record { fits = omega (arith, (facts z.read).read.entries_most, few) }
+      result_fits_2 = record { fits = omega (arith, (claim_facts z.read).read.entries_most, few) }
 
       pub result_number : get_or l (k + 1 + i) 0 < 256
       result_number = byte_number (k + 1 + i) (omega arith)

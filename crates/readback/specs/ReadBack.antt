@@ -1,8 +1,8 @@
 -- From a program back to its derivation and its claim: document 02, A6.
 use Rattle.std.specs.Prelude.{◌≡◌, ◌⊎◌, ◌∷◌, ◌++◌, ◌+◌, ◌-◌, ◌*◌, ◌<◌}
-use Rattle.base.specs.{Words.Bool, Words.true, Words.false, Words.ite, Words.cond, Words.List, Words.[], Words.Option, Words.none, Words.some, Words.ℕ, Words.eqb, Words.ltb, Words.first, Words.fours, Words.byte, Answer.numbered, Answer.row11}
-use Rattle.term.specs.{Term.Relation, Term.equal, Term.inverses, Number.has_one, Computed.term?}
-use Rattle.submission.specs.Record.{terms, entries, guess, term}
+use Rattle.base.specs.{Words.Bool, Words.cond, Words.List, Words.[], Words.Option, Words.none, Words.some, Words.ℕ, Words.eqb, Words.ltb, Words.fours, Words.byte, Answer.numbered, Answer.row11}
+use Rattle.term.specs.{Term.Relation, Term.equal, Term.inverses, Number.has_one}
+use Rattle.submission.specs.Record.{terms, entries, guess, term, number_in}
 use Rattle.submission.specs.Check.{Way, another_step, at_start, inverse_key, guess_derived, inverse_derived, Range, step_number, term_number, zero_only, step_or_knowledge, knowledge_step, row}
 use Rattle.derivation.specs.Step.{written}
 use Rattle.program.specs.Program.{relation_of, Instruction, instruction_at, test_at}
@@ -13,13 +13,9 @@ use Rattle.machine.specs.Run.{held, program_rows}
 abbrev pub step_of : List ℕ → ℕ → ℕ
 step_of s r = r - (entries s + 1)
 
--- register r holds term n, with the right guess
-abbrev pub holds_number : List ℕ → List ℕ → ℕ → ℕ → Bool
-holds_number s P r n = ite (term? (held s P r) (term s n)) true false
-
--- the number of the term that register r holds; one that isn't listed, which check 17 refuses, reads as 0
+-- the number of the term that register r holds with the right guess; one that isn't listed, which check 17 refuses, reads as 0
 unfoldable pub number : List ℕ → List ℕ → ℕ → ℕ
-number s P r = elim (first (holds_number s P r) (terms s)) [ none ↦ 0 | some n ↦ n ]
+number s P r = elim (number_in s (held s P r)) [ none ↦ 0 | some n ↦ n ]
 
 -- "rule, p, q, conclusion", of instruction i; q is 0 where the rule has one premise
 abbrev pub step_read : List ℕ → List ℕ → ℕ → List ℕ

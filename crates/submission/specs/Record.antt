@@ -111,6 +111,10 @@ is_term s t n = ite (term? t (term s n)) true false
 unfoldable pub number_in : List ℕ → Term → Option ℕ
 number_in s t = first (is_term s t) (terms s)
 
+-- it is not listed
+abbrev pub unlisted : List ℕ → Term → Bool
+unlisted s t = elim (number_in s t) [ none ↦ true | some n ↦ false ]
+
 -- a message in the knowledge
 abbrev pub InKnowledge : List ℕ → Term → Type 0
 InKnowledge s t = (r : ℕ) × (r < entries s) × (t ≡ term s (entry_at s r))

@@ -12,12 +12,12 @@ use Rattle.base.proofs.{Says.true_or_false, RefusalLaws.first_of, RefusalLaws.af
 use Rattle.term.specs.{Term.Term, Term.is_key, Term.inverse, Number.head_of, Step.Deducible}
 use Rattle.submission.specs.Record.{start, terms, steps, rule_at, p_at, q_at, second_at, conclusion_at, guess, verifying, way_at, companion, term, InKnowledge}
 use Rattle.submission.specs.{Body.Bodies, Body.body_at, Check.Way, Check.another_step, Check.at_start, Check.inverse_key, Check.guess_derived, Check.inverse_derived, Check.way_of, Check.Target, Check.the_guess, Check.its_inverse, Check.Claims, Check.verifier, Check.derived, Check.claims_in, Check.claims, Check.row, Check.InRange}
-use Rattle.submission.proofs.Theory.{ListedTerms.Claimed, ListedTerms.verifying_below, ReadingRows.claimed_clear, ReadingRows.first_four}
+use Rattle.submission.proofs.Theory.{ListedTerms.Claimed, ListedTerms.verifying_below, ReadingRows.claimed_clear, ReadingRows.first_four, ListedTerms.claim_facts}
 use Rattle.form.proofs.Theory.SameBodies.{same_byte, same_field}
 use Rattle.derivation.specs.Step.{rule, first_premise, second_premise, concluded, Premise, StepFits, guess_counts, Known}
 use Rattle.derivation.proofs.Theory.{LargerTables.fits_over, StepMeaning.second_listed}
 use Rattle.pool.specs.{Pool.pool as pooled_bodies, Pool.joined, Pool.pool_number, Promise.IsPool}
-use Rattle.pool.proofs.Theory.{JoinAnswer.Joinable, JoinAnswer.join_done, PoolBodies.claimed_in, PoolBodies.count_is, PoolPassed.claim_byte, PoolPassed.guess_same, PoolPassed.is_pool, PoolBytes.pool_bytes}
+use Rattle.pool.proofs.Theory.{JoinAnswer.Joinable, JoinAnswer.join_done, PoolBodies.count_is, PoolPassed.claim_byte, PoolPassed.guess_same, PoolPassed.is_pool, PoolBytes.pool_bytes}
 use Rattle.deduction.specs.Computed.{deducible_answer}
 use Rattle.deduction.proofs.Theory.{DeducibleAnswer.asked_iff, DeducibleAnswer.yes_exact, Exactness.deducible_trans}
 use Rattle.program.specs.Program.{program_length}
@@ -36,7 +36,7 @@ module _ {a b : List ℕ} (h : Joinable a b) (whole : WellFormed a) where
   pool = is_pool h
 
   claim : Claimed a
-  claim = claimed_in h.first
+  claim = claim_facts h.first
 
   -- ---- its steps and its claim are the first's
   same_steps : steps p ≡ steps a

@@ -9,6 +9,7 @@ use Rattle.base.specs.Words.{byte}
 use Rattle.term.specs.Term.{void}
 use Rattle.term.specs.Code.{Table}
 use Rattle.term.proofs.Table.{decode_inj, tables_agree}
+use Rattle.submission.proofs.Theory.ListedTerms.{claim_facts}
 use Rattle.submission.specs.Record.{terms, entries, guess, name_at, term}
 use Rattle.submission.specs.Code.{SubmissionRead}
 use Rattle.program.specs.Computed.{bad_program}
@@ -19,7 +20,6 @@ use Rattle.std.specs.Prelude.{Option as Maybe}
 use Rattle.machine.specs.Code.{guess_node, Started, Ran, RegisterNumbers}
 use Rattle.machine.proofs.Theory.StateMeaning.{node_at, term_at, register, SoundState, HasTerms, Running}
 use Rattle.machine.proofs.Theory.NodeRecords.{term_record}
-use Rattle.machine.proofs.Theory.StartState.{facts}
 use Rattle.machine.proofs.Theory.InstructionResult.{value_at}
 use Rattle.machine.proofs.Theory.RunLoop.{RunSoFar, run_all}
 
@@ -31,7 +31,7 @@ module _ {s : List ℕ} {m : Machine} (w : SubmissionRead s) (v : SoundState m) 
       record { reads = λ k b. v.table.reads k (omega arith); earlier = λ k b. v.table.earlier k (omega arith); distinct = λ j k b c. v.table.distinct j k (omega arith) (omega arith) }
 
   term_of : (k : ℕ) → k < terms s → term_at m k ≡ term s k
-  term_of = tables_agree first_nodes (facts w).read.table (term_record h.nodes)
+  term_of = tables_agree first_nodes (claim_facts w).read.table (term_record h.nodes)
 
 -- ---- a run with the right guess, after the last instruction
 module _ {s P : List ℕ} {m : Machine} (h : RunSoFar s (name_at s (guess s)) P (byte P 0) m) where

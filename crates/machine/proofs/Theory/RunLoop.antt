@@ -7,6 +7,7 @@ use native.Mathlib.Numerals.{add-one}
 use native.Mathlib.Omega.{arith}
 use lib.ListN.{length, length-set}
 use Rattle.base.specs.Words.{grow, byte}
+use Rattle.submission.proofs.Theory.ListedTerms.{claim_facts}
 use Rattle.submission.specs.Code.{SubmissionRead}
 use Rattle.program.specs.Program.{Instruction, instruction_at}
 use Rattle.program.specs.Computed.{bad_program}
@@ -17,7 +18,7 @@ use Rattle.machine.specs.declared.Node.{Node}
 use Rattle.std.specs.Prelude.{Option as Maybe}
 use Rattle.machine.specs.Code.{guess_node, Started, Executable, Executed, Ran, Runnable}
 use Rattle.machine.proofs.Theory.StateMeaning.{values, Gives, Applies, HasTerms, Running}
-use Rattle.machine.proofs.Theory.StartState.{facts, start_running, start_terms, start_long, terms_stay}
+use Rattle.machine.proofs.Theory.StartState.{start_running, start_terms, start_long, terms_stay}
 use Rattle.machine.proofs.Theory.InstructionResult.{applies_executable, executed_gives}
 
 -- ---- one instruction
@@ -34,7 +35,7 @@ module _ {s P : List ℕ} {name i : ℕ} {m : Machine} {x : Instruction} (w : Su
         left = rw (e, h.used) a;
         right = rw (e, h.used) b;
         room = omega (arith, h.few, z.few);
-        space = omega (arith, h.used, z.few, (facts w).read.entries_most);
+        space = omega (arith, h.used, z.few, (claim_facts w).read.entries_most);
       }
 
   running_more : {r : Machine} → Gives m (executed (values m) x) r → Running s name P (i + 1) r

@@ -9,6 +9,7 @@ use native.Mathlib.Omega.{arith}
 use Rattle.base.proofs.Says.{Says, says_or, denies, same_test}
 use Rattle.term.specs.Term.{Kind, plain, public, private, other_kind, atom, leaf, message}
 use Rattle.term.proofs.Table.{leaf_of}
+use Rattle.submission.proofs.Theory.ListedTerms.{claim_facts}
 use Rattle.submission.specs.Record.{terms, guess, name_at, record_at, term, guessed}
 use Rattle.submission.specs.Code.{SubmissionRead, KnownPart}
 use Rattle.submission.proofs.{PassedChecks.table_passed, Theory.StaleTests.listed_part}
@@ -20,14 +21,14 @@ use Rattle.machine.specs.Run.{StaleName}
 use Rattle.machine.specs.Computed.{is_stale_name}
 use Rattle.machine.specs.Code.{record_for, node_for, node_of, Finds, guess_node, inverse_node, TermNodes, PartMarks, is_marked, SomeMarked}
 use Rattle.machine.proofs.Theory.NodeRecords.{atom_record, record_node}
-use Rattle.machine.proofs.Theory.StartState.{facts, atom_node, guess_atom}
+use Rattle.machine.proofs.Theory.StartState.{atom_node, guess_atom}
 use Rattle.machine.proofs.Theory.RunAnswer.{says_stale_name}
 
 -- ---- the number of an atom's node is that of the atom
 module _ {s : List ℕ} {ns : List Node} (w : SubmissionRead s) (z : TermNodes s ns) (κ : Kind) (name : ℕ) where
   says_node : (k : ℕ) → k < terms s → (node_of ns k ≡ atom_node κ name) ↔ (term s k ≡ atom κ name)
   says_node k b =
-      let t = (facts w).read.table in (
+      let t = (claim_facts w).read.table in (
         λ f.
             let g : record_at s k ≡ leaf κ name = sym (record_node (record_at s k)) ∙ ap record_for (sym (z.is k b) ∙ f) ∙ atom_record κ name 0 in
             t.reads k b ∙ ap (message (term s)) g,
@@ -45,12 +46,12 @@ module _ {s : List ℕ} {ns : List Node} (w : SubmissionRead s) (z : TermNodes s
     says_found {lowest} {l} (Some k) e p low =
         let (b, f) = at_term k e in
         (λ m. subst (KnownPart s) f (p.known k b m), λ q. p.whole k b low (subst (KnownPart s) (sym f) q))
-    says_found None e p low = (λ t. absurd (false≢true t), λ q. let (j, a, g) = listed_part (facts w).read q in absurd (at_none e j a (sym g)))
+    says_found None e p low = (λ t. absurd (false≢true t), λ q. let (j, a, g) = listed_part (claim_facts w).read q in absurd (at_none e j a (sym g)))
 
     -- an atom that is not listed is part of nothing
     unlisted : (o : Maybe ℕ) → Finds ns (atom_node κ name) 0 n o → n ≤ unwrap_or o n → KnownPart s (atom κ name) → ⊥
     unlisted (Some k) e t q = let (b, f) = at_term k e in omega arith
-    unlisted None e t q = let (j, a, g) = listed_part (facts w).read q in at_none e j a (sym g)
+    unlisted None e t q = let (j, a, g) = listed_part (claim_facts w).read q in at_none e j a (sym g)
 
 inverse_atom : (κ : Kind) (name : ℕ) → inverse_node (atom_node κ name) ≡ atom_node (other_kind κ) name
 inverse_atom plain name = refl
@@ -62,7 +63,7 @@ pub table_read : {s : List ℕ} → SubmissionRead s → TableRead s
 table_read {s} w = table_passed s w.bytes w.passed
 
 pub terms_fit : {s : List ℕ} {n : ℕ} → SubmissionRead s → n ≡ terms s → n ≤ 384
-terms_fit w e = omega (arith, (facts w).read.terms_most)
+terms_fit w e = omega (arith, (claim_facts w).read.terms_most)
 
 module _ {s : List ℕ} (v : Node) (w : SubmissionRead s) {m : ℕ} (own_is : m ≡ name_at s (guess s)) where
   pub own_name : m ≡ v.left → false ≡ is_stale_name s v.left
@@ -71,14 +72,14 @@ module _ {s : List ℕ} (v : Node) (w : SubmissionRead s) {m : ℕ} (own_is : m 
   module _ (d : m ≡ v.left → ⊥) {ns : List Node} (z : TermNodes s ns) (q : v ≡ guess_node s v.left) (found other : Maybe ℕ) {n : ℕ}
       (x : Finds ns v 0 n found) (c : n ≡ terms s) (y : Finds ns (inverse_node v) 0 n other) where
     abbrev κ : Kind
-    κ = (facts w).guess_kind
+    κ = (claim_facts w).guess_kind
 
     is_atom : v ≡ atom_node κ v.left
     is_atom = q ∙ guess_atom w v.left
 
     guessed_is : guessed s v.left ≡ atom κ v.left
     unfolding guessed
-    guessed_is = rw (facts w).guess_shape
+    guessed_is = rw (claim_facts w).guess_shape
 
     found_is : Finds ns (atom_node κ v.left) 0 n found
     found_is = subst (λ z. Finds ns z 0 n found) is_atom x

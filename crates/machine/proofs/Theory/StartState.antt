@@ -14,7 +14,7 @@ use Rattle.term.specs.Code.{kind_is, is_unary, builder_of, Table}
 use Rattle.submission.specs.declared.Term.{Term as TermRead}
 use Rattle.submission.specs.Record.{terms, entries, entry_at, guess, kind_at, record_of, record_at, term, guessed}
 use Rattle.submission.specs.Code.{IsTerm, SubmissionRead}
-use Rattle.submission.proofs.Theory.ListedTerms.{Claimed, claimed}
+use Rattle.submission.proofs.Theory.ListedTerms.{claim_facts}
 use Rattle.machine.specs.declared.Node.{Node}
 use Rattle.std.specs.Prelude.{Option as Maybe, Some, None}
 use Rattle.machine.specs.Run.{initial, registers}
@@ -28,10 +28,6 @@ use Rattle.machine.proofs.Theory.NodeRecords.{atom_record, term_record}
 use Rattle.machine.proofs.Theory.StateGrowth.{decoded_alike, nodes_stay, Fit}
 use Rattle.machine.proofs.Theory.NodeSearch.{Absent, nodes_many, placed_gives}
 use Rattle.term.specs.Computed.{is_atomic}
-
--- what holds of the terms, and of the claim, after checks 1 to 5
-pub facts : {s : List ℕ} → SubmissionRead s → Claimed s
-facts {s} w = claimed s w.bytes w.passed
 
 -- ---- the node of a record
 -- the node of an atom, and that of a compound term, by the kind
@@ -90,19 +86,19 @@ pub record EntriesPut (s regs : List ℕ) (i : ℕ) : Type 0 where
 -- ---- the guess
 module _ {s t : List ℕ} (w : SubmissionRead s) (e : t ≡ s) {g : ℕ} (f : g ≡ guess s) where
   pub guess_listed : g < terms t
-  guess_listed = rw (e, f) (facts w).guess_below
+  guess_listed = rw (e, f) (claim_facts w).guess_below
 
   pub guess_made : {k : KindRead} → shape_of (kind_at t g) ≡ some (kind_is k) → {v : Node} (name : ℕ) → v ≡ record { head = Atom k; left = name; right = 0 } → v ≡ guess_node s name
   guess_made {k} h name i =
       let shape : shape_of (kind_at s (guess s)) ≡ some (kind_is k) = rw (e, f) at h in
-      i ∙ rw (shape, ← (atom_for k (ap is_atomic (sym shape ∙ (facts w).guess_shape))))
+      i ∙ rw (shape, ← (atom_for k (ap is_atomic (sym shape ∙ (claim_facts w).guess_shape))))
 
 -- the node of the atom of a kind with a name, and that of the guess
 abbrev pub atom_node : Kind → ℕ → Node
 atom_node κ name = record { head = atom_head κ; left = name; right = 0 }
 
-pub guess_atom : {s : List ℕ} (w : SubmissionRead s) (name : ℕ) → guess_node s name ≡ atom_node (facts w).guess_kind name
-guess_atom {s} w name = rw (facts w).guess_shape
+pub guess_atom : {s : List ℕ} (w : SubmissionRead s) (name : ℕ) → guess_node s name ≡ atom_node (claim_facts w).guess_kind name
+guess_atom {s} w name = rw (claim_facts w).guess_shape
 
 -- ---- the state m that holds these
 module _ {s : List ℕ} {m : Machine} (w : SubmissionRead s) (h : Loaded s m) where
@@ -117,12 +113,12 @@ module _ {s : List ℕ} {m : Machine} (w : SubmissionRead s) (h : Loaded s m) wh
   unfolding term_at term
   loaded_sound = record {
     table = subst (λ n. Table (node_at m) n (term_at m)) (sym h.many) (subst (λ ts. Table (node_at m) (terms s) (λ k. get_or ts k void)) (sym same_terms) (record {
-      reads = λ k b. (facts w).read.table.reads k b ∙ ap (message (term s)) (sym (term_record h.nodes k b));
-      earlier = λ k b. rw (term_record h.nodes k b) ((facts w).read.table.earlier k b);
-      distinct = λ j k b c e. (facts w).read.table.distinct j k b c (sym (term_record h.nodes j b) ∙ e ∙ term_record h.nodes k c);
+      reads = λ k b. (claim_facts w).read.table.reads k b ∙ ap (message (term s)) (sym (term_record h.nodes k b));
+      earlier = λ k b. rw (term_record h.nodes k b) ((claim_facts w).read.table.earlier k b);
+      distinct = λ j k b c e. (claim_facts w).read.table.distinct j k b c (sym (term_record h.nodes j b) ∙ e ∙ term_record h.nodes k c);
     }));
     canonical = λ k b. let l : k < terms s = omega (arith, h.many) in ap node_for (term_record h.nodes k l) ∙ sym (h.nodes.is k l);
-    written = λ r b. let l : r < entries s = omega (arith, h.used) in rw (h.known.is r l, h.many) ((facts w).read.entry_below r l);
+    written = λ r b. let l : r < entries s = omega (arith, h.used) in rw (h.known.is r l, h.many) ((claim_facts w).read.entry_below r l);
   }
 
   loaded_values : values m ≡ listed (λ i. term s (entry_at s i)) (entries s)
@@ -131,8 +127,8 @@ module _ {s : List ℕ} {m : Machine} (w : SubmissionRead s) (h : Loaded s m) wh
 
   -- the guess's node is put after the terms, and its number into the next register
   module _ {v : Node} (name : ℕ) (q : v ≡ guess_node s name) where
-    guess_record : record_for v ≡ leaf (facts w).guess_kind name
-    guess_record = rw (q, guess_atom w name) (atom_record (facts w).guess_kind name 0)
+    guess_record : record_for v ≡ leaf (claim_facts w).guess_kind name
+    guess_record = rw (q, guess_atom w name) (atom_record (claim_facts w).guess_kind name 0)
 
     guess_fit : Fit m v
     guess_fit = record { sound = loaded_sound; canonical = rw guess_record (sym (q ∙ guess_atom w name)); low = rw guess_record tt }
@@ -147,10 +143,10 @@ module _ {s : List ℕ} {m : Machine} (w : SubmissionRead s) (h : Loaded s m) wh
         record {
           holds = record {
             sound = d.holds.sound;
-            is = d.holds.is ∙ ap₂ (λ vs t. vs ++ t ∷ []) loaded_values (ap (message (term_at m)) guess_record ∙ ap (λ o. atom (atom_kind o) name) (sym (facts w).guess_shape));
+            is = d.holds.is ∙ ap₂ (λ vs t. vs ++ t ∷ []) loaded_values (ap (message (term_at m)) guess_record ∙ ap (λ o. atom (atom_kind o) name) (sym (claim_facts w).guess_shape));
           };
           used = omega (arith, d.used, h.used);
-          few = omega (arith, d.few, h.many, (facts w).read.terms_most);
+          few = omega (arith, d.few, h.many, (claim_facts w).read.terms_most);
         }
 
 -- the first nodes of a state stay the terms'

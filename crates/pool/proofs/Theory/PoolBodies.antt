@@ -6,26 +6,15 @@ use mathlib.Core.Option.{Option, none, some}
 use Prim.Native.Nat.{ℕ, ◌+◌, ◌*◌, ◌≤◌, ◌<◌}
 use native.Mathlib.Omega.{arith}
 use lib.ListN.{length, get_or, length-append}
-use Rattle.base.specs.{Answer.Clear}
-use Rattle.base.proofs.{Order.lt_or_ge, Says.each_of_four, RefusalLaws.passes_iff}
+use Rattle.base.proofs.{Order.lt_or_ge, Says.each_of_four}
 use Rattle.term.specs.{Term.Shape, Term.atomic, Term.compound, Number.shape_of}
 use Rattle.submission.specs.{Record.count, Record.width, Record.least, Record.most, Record.terms, Record.entries, Record.steps, Record.kind_at, Record.x_at, Record.y_at}
-use Rattle.submission.specs.{Body.body, Body.records, Body.body_at, Check.rows1to5, Code.SubmissionRead}
-use Rattle.submission.proofs.Theory.{ListedTerms.Listed, ListedTerms.Claimed, ListedTerms.claimed, ReadingRows.tells_1_to_5, ReadingRows.first_two, ReadingRows.one_claim}
+use Rattle.submission.specs.{Body.body, Body.records, Body.body_at, Code.SubmissionRead}
+use Rattle.submission.proofs.Theory.{ListedTerms.claim_facts, ReadingRows.rows_clear, ReadingRows.first_two, ReadingRows.one_claim}
 use Rattle.form.specs.{Write.ReadsAs, Code.Writable}
 use Rattle.form.proofs.Theory.{RoundTrip.counts, RoundTrip.counted, RoundTrip.whole_written, RoundTrip.reads_as, RoundTrip.body_length, WriteAnswer.written_writable}
 use Rattle.pool.specs.Pool.{missing, pool_number, operands, renumbered, new_entries, pool, joined}
 use Rattle.pool.proofs.Theory.{JoinAnswer.Joinable, JoinAnswer.not_overfull, PoolLists.threes_length, PoolNumbers.rank}
-
--- ---- what holds of a submission that passed checks 1 to 5
-pub claimed_in : {s : List ℕ} → SubmissionRead s → Claimed s
-claimed_in {s} r = claimed s r.bytes r.passed
-
-pub listed_in : {s : List ℕ} → SubmissionRead s → Listed s
-listed_in r = (claimed_in r).read
-
-pub rows_clear : {s : List ℕ} → SubmissionRead s → Clear (rows1to5 s)
-rows_clear {s} r = (passes_iff (tells_1_to_5 s r.bytes)).0 r.passed
 
 -- ---- the counts
 -- each of the renumbered records has three bytes
@@ -68,7 +57,7 @@ module _ {a b : List ℕ} (h : Joinable a b) where
 
   pool_within : (i : ℕ) → i < 4 → (least i ≤ pool_counts a b i) × (pool_counts a b i ≤ most i)
   pool_within =
-      let z = listed_in h.first in
+      let z = (claim_facts h.first).read in
       each_of_four (λ i. (least i ≤ pool_counts a b i) × (pool_counts a b i ≤ most i))
       (omega (arith, z.terms_least), ⊎_elim (λ l. absurd (not_overfull h (inl l))) (λ l. omega (arith, pool_term_count b h.first)) (lt_or_ge (most 0) (records (pool a b) 0)))
       (omega arith, ⊎_elim (λ l. absurd (not_overfull h (inr l))) (λ l. omega (arith, pool_entry_count b h.first)) (lt_or_ge (most 1) (records (pool a b) 1)))

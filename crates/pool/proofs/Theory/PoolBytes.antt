@@ -15,8 +15,9 @@ use Rattle.submission.specs.Record.{letter, most, start_of, start, terms, entrie
 use Rattle.submission.specs.{Body.records, Body.contents_entry, Body.contents, Body.body_at, Body.submission_of, Check.HasSecond, Check.Shaped}
 use Rattle.submission.proofs.Theory.{ListedTerms.Listed, ReadingRows.counts_within}
 use Rattle.form.proofs.Theory.RoundTrip.{counts}
+use Rattle.submission.proofs.Theory.{ListedTerms.claim_facts}
 use Rattle.pool.specs.{Pool.is_missing, Pool.missing, Pool.pool_number, Pool.operands, Pool.renumbered, Pool.is_entry, Pool.new_entries, Pool.pool, Pool.joined}
-use Rattle.pool.proofs.Theory.{PoolNumbers.missing_none, PoolNumbers.missing_more, JoinAnswer.Joinable, PoolBodies.listed_in, PoolBodies.pool_reads, PoolRecords.number_below}
+use Rattle.pool.proofs.Theory.{PoolNumbers.missing_none, PoolNumbers.missing_more, JoinAnswer.Joinable, PoolBodies.pool_reads, PoolRecords.number_below}
 
 -- ---- lists of bytes, one by one
 abbrev AllBytes : List ℕ → Type 0
@@ -109,7 +110,7 @@ unfolding submission_of pool
 pool_bytes {a} {b} h =
     let p = joined a b in
     let x : Bytes a = h.first.bytes in
-    let z : Listed b = listed_in h.second in
+    let z : Listed b = (claim_facts h.second).read in
     let within = counts_within p (pool_reads h).passes in
     let most_terms : terms p ≤ 250 = (within 0 (omega arith)).1 in
     let low : (j : ℕ) → j < terms b → pool_number a b j < 256 = λ j l. let m = number_below h j l in omega arith in

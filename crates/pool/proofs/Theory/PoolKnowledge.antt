@@ -12,8 +12,9 @@ use Rattle.term.specs.Term.{Term}
 use Rattle.submission.specs.{Record.terms, Record.entries, Record.entry_at, Record.term, Record.InKnowledge, Body.Bodies, Body.body_at}
 use Rattle.submission.specs.Code.{SubmissionRead}
 use Rattle.form.proofs.Theory.RoundTrip.{body_byte}
+use Rattle.submission.proofs.Theory.{ListedTerms.claim_facts, ReadingRows.rows_clear}
 use Rattle.pool.specs.Pool.{pool_number, is_entry, new_entries, pool, joined}
-use Rattle.pool.proofs.Theory.{JoinAnswer.Joinable, PoolLists.kept_place, PoolLists.kept_at, PoolBodies.rows_clear, PoolBodies.listed_in, PoolBodies.own_length}
+use Rattle.pool.proofs.Theory.{JoinAnswer.Joinable, PoolLists.kept_place, PoolLists.kept_at, PoolBodies.own_length}
 use Rattle.pool.proofs.Theory.{PoolBodies.pool_reads, PoolBodies.count_is}
 use Rattle.pool.proofs.Theory.{PoolRecords.term_count, PoolTable.first_term, PoolTable.second_term}
 
@@ -59,7 +60,7 @@ module _ {a b : List ℕ} (h : Joinable a b) where
       entry_byte (entries a + k) (omega (arith, entry_count)) ∙ ap (byte (body_at a 1 ++ new)) e ∙ get_or-append-add (body_at a 1) new k 0
 
   second_message : (r : ℕ) → r < entries b → term p (m r) ≡ term b (entry_at b r)
-  second_message r l = (second_term h (entry_at b r) ((listed_in h.second).entry_below r l)).1
+  second_message r l = (second_term h (entry_at b r) ((claim_facts h.second).read.entry_below r l)).1
 
   -- each of the pool's entries is the first's, or a new one of the second's
   record New (r : ℕ) : Type 0 where
@@ -88,8 +89,8 @@ module _ {a b : List ℕ} (h : Joinable a b) where
   -- row 4: each is below the count of terms, and no earlier one is equal
   pub entry_good : (r : ℕ) → r < entries p → (terms p ≤ entry_at p r) ⊎ ((k : ℕ) × (k < r) × (entry_at p k ≡ entry_at p r)) → ⊥
   entry_good r l (inl u) = ⊎_elim
-      (λ v. let w = (listed_in h.first).entry_below r v in omega (arith, first_entry r v, term_count h))
-      (λ (n : New r). let w = (second_term h (entry_at b n.place) ((listed_in h.second).entry_below n.place n.below)).0 in omega (arith, n.is))
+      (λ v. let w = (claim_facts h.first).read.entry_below r v in omega (arith, first_entry r v, term_count h))
+      (λ (n : New r). let w = (second_term h (entry_at b n.place) ((claim_facts h.second).read.entry_below n.place n.below)).0 in omega (arith, n.is))
       (whose_entry r l)
   entry_good r l (inr (k, u, e)) = go (whose_entry r l) (whose_entry k (omega arith))
     where
@@ -100,7 +101,7 @@ module _ {a b : List ℕ} (h : Joinable a b) where
       go (inr n) (inr o) =
           let q : m o.place ≡ m n.place = sym o.is ∙ e ∙ n.is in
           let t = sym (second_message o.place o.below) ∙ ap (term p) q ∙ second_message n.place n.below in
-          let f = (listed_in h.second).same_number _ _ ((listed_in h.second).entry_below o.place o.below) ((listed_in h.second).entry_below n.place n.below) t in
+          let f = (claim_facts h.second).read.same_number _ _ ((claim_facts h.second).read.entry_below o.place o.below) ((claim_facts h.second).read.entry_below n.place n.below) t in
           let g : o.place ≡ n.place = entries_apart h.second o.place n.place o.below n.below f in
           let i : k ≡ r = sym o.before ∙ ap (λ j. entries a + length (new_entries a b j)) g ∙ n.before in
           omega arith
@@ -109,11 +110,11 @@ module _ {a b : List ℕ} (h : Joinable a b) where
   pub knowledge_of_both : (t : Term) → InKnowledge p t ↔ (InKnowledge a t ⊎ InKnowledge b t)
   knowledge_of_both t = (
     λ (r, l, e). ⊎_elim
-        (λ u. inl (r, u, e ∙ ap (term p) (first_entry r u) ∙ (first_term h (entry_at a r) ((listed_in h.first).entry_below r u)).1))
+        (λ u. inl (r, u, e ∙ ap (term p) (first_entry r u) ∙ (first_term h (entry_at a r) ((claim_facts h.first).read.entry_below r u)).1))
         (λ (n : New r). inr (n.place, n.below, e ∙ ap (term p) n.is ∙ second_message n.place n.below))
         (whose_entry r l),
     ⊎_elim
-        (λ (r, l, e). (r, omega (arith, entry_count), e ∙ sym (first_term h (entry_at a r) ((listed_in h.first).entry_below r l)).1 ∙ sym (ap (term p) (first_entry r l))))
+        (λ (r, l, e). (r, omega (arith, entry_count), e ∙ sym (first_term h (entry_at a r) ((claim_facts h.first).read.entry_below r l)).1 ∙ sym (ap (term p) (first_entry r l))))
         (λ (r, l, e). ⊎_elim
         (λ v. let (k, w, f) = (says_entry a (m r)).0 v in (k, omega (arith, entry_count), e ∙ sym (second_message r l) ∙ sym (ap (term p) (first_entry k w ∙ f))))
         (λ v. let (w, f) = new_entry r l v in (entries a + length (new_entries a b r), w, e ∙ sym (second_message r l) ∙ sym (ap (term p) f)))

@@ -13,8 +13,8 @@ use Rattle.base.proofs.Order.{lt_or_ge}
 use Rattle.term.specs.Term.{Second, absent, anything, key_for, second, unary, make, atom, node, Shape, atomic, compound, shape}
 use Rattle.term.specs.Number.{shape_of}
 use Rattle.term.proofs.KindLaws.{shape_kind}
-use Rattle.submission.specs.{Record.terms, Record.kind_at, Record.x_at, Record.y_at, Record.name_at, Record.term, Record.number_in, Check.HasSecond, Check.Shaped}
-use Rattle.submission.proofs.Theory.{GoodRecord.name_bytes, ListedTerms.Listed, ListedNumbers.number_some, ListedNumbers.number_none, ListedNumbers.number_found, ListedNumbers.record_term, ListedNumbers.listed_shape}
+use Rattle.submission.specs.{Record.terms, Record.kind_at, Record.x_at, Record.y_at, Record.name_at, Record.term, Record.number_in, Record.unlisted, Check.HasSecond, Check.Shaped}
+use Rattle.submission.proofs.Theory.{GoodRecord.name_bytes, ListedTerms.Listed, ListedNumbers.number_some, ListedNumbers.number_none, ListedNumbers.number_unique, ListedNumbers.record_term, ListedNumbers.listed_shape}
 use Rattle.pool.specs.Pool.{is_missing, missing, pool_number, renumbered}
 use Rattle.pool.proofs.Theory.{MappedRecord.record_bytes, PoolLists.kept_more}
 
@@ -49,8 +49,8 @@ unfolding pool_number
 in_or_missing a b j = go (number_in a (term b j)) refl
   where
     go : (o : Option ℕ) → number_in a (term b j) ≡ o → InFirst a b j ⊎ Missing a b j
-    go none e = inr (record { lacks = number_none a (term b j) e; is = rw (e, pool_number); absent = rw (e, is_missing) })
-    go (some n) e = let (l, h) = number_some a (term b j) n e in inl (record { number = n; below = l; same = h; is = rw (e, pool_number); present = rw (e, is_missing) })
+    go none e = inr (record { lacks = number_none a (term b j) e; is = rw (e, pool_number); absent = rw (e, unlisted) })
+    go (some n) e = let (l, h) = number_some a (term b j) n e in inl (record { number = n; below = l; same = h; is = rw (e, pool_number); present = rw (e, unlisted) })
 
 module _ (a b : List ℕ) where
   rank_next : (n : ℕ) → rank a b (suc n) ≡ rank a b n + cond (is_missing a b n) 1 0
@@ -86,7 +86,7 @@ module _ {a : List ℕ} (z : Listed a) (b : List ℕ) where
 
   pub number_same : (j n : ℕ) → n < terms a → term b j ≡ term a n → pool_number a b j ≡ n
   unfolding pool_number
-  number_same j n l e = rw (number_found a (term b j) z n l e, pool_number)
+  number_same j n l e = rw (number_unique a (term b j) z n l e, pool_number)
 
 -- ---- record n of the first and the renumbered record of the second's term j
 module _ {a b : List ℕ} (z : Listed a) (y : Listed b) (n j : ℕ) (l : n < terms a) (m : j < terms b) where

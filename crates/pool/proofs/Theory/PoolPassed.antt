@@ -11,9 +11,10 @@ use Rattle.submission.specs.Check.{way_of, the_guess, its_inverse, Claims, verif
 use Rattle.submission.specs.Check.{GuessFits, FitsWay, ClaimFits, rows1to5}
 use Rattle.submission.proofs.Theory.{ListedTerms.Claimed, ReadingRows.first_two, ReadingRows.one_claim}
 use Rattle.form.proofs.Theory.SameBodies.{same_byte, same_first}
+use Rattle.submission.proofs.Theory.{ListedTerms.claim_facts, ReadingRows.rows_clear}
 use Rattle.pool.specs.Pool.{pool, joined}
 use Rattle.pool.specs.Promise.{IsPool}
-use Rattle.pool.proofs.Theory.{JoinAnswer.Joinable, PoolBodies.rows_clear, PoolBodies.claimed_in, PoolBodies.pool_reads, PoolBodies.count_is, PoolRecords.term_count}
+use Rattle.pool.proofs.Theory.{JoinAnswer.Joinable, PoolBodies.pool_reads, PoolBodies.count_is, PoolRecords.term_count}
 use Rattle.pool.proofs.Theory.{PoolTable.first_kind, PoolTable.first_term, PoolTable.second_term, PoolTable.terms_of_both, PoolTable.term_good, PoolKnowledge.entry_good}
 use Rattle.pool.proofs.Theory.{PoolKnowledge.knowledge_of_both}
 
@@ -22,7 +23,7 @@ module _ {a b : List ℕ} (h : Joinable a b) where
   p = joined a b
 
   claim : Claimed a
-  claim = claimed_in h.first
+  claim = claim_facts h.first
 
   -- ---- the claim's bytes
   one : count p 3 ≡ 1

@@ -11,15 +11,16 @@ use Rattle.base.proofs.{Says.denies, RefusalLaws.passes_iff}
 use Rattle.submission.specs.{Record.terms, Record.entries, Record.entry_at, Body.bodies_of, Body.body_at, Body.submission_of, Check.rows1to5, Code.SubmissionRead}
 use Rattle.submission.proofs.Theory.{ListedTerms.Listed, ReadingRows.tells_1_to_5, ReadingRows.first_two}
 use Rattle.form.proofs.Theory.RoundTrip.{form_promise}
+use Rattle.submission.proofs.Theory.{ListedTerms.claim_facts, ReadingRows.rows_clear}
 use Rattle.pool.specs.{Pool.is_missing, Pool.missing, Pool.pool_number, Pool.is_entry, Pool.new_entries, Pool.pool, Pool.joined, Pool.Overfull, Computed.overfull, Promise.JoinPromise}
 use Rattle.pool.proofs.Theory.{JoinAnswer.Joinable, JoinAnswer.says_overfull, JoinAnswer.join_done, JoinAnswer.done_joinable, PoolLists.kept_none, PoolNumbers.InFirst}
-use Rattle.pool.proofs.Theory.{PoolNumbers.Missing, PoolNumbers.in_or_missing, PoolNumbers.number_same, PoolBodies.rows_clear, PoolBodies.listed_in}
+use Rattle.pool.proofs.Theory.{PoolNumbers.Missing, PoolNumbers.in_or_missing, PoolNumbers.number_same}
 use Rattle.pool.proofs.Theory.{PoolBodies.pool_term_count, PoolBodies.pool_entry_count, PoolKnowledge.says_entry, PoolPassed.is_pool}
 
 -- ---- joining with itself
 module _ {a : List ℕ} (r : SubmissionRead a) where
   z : Listed a
-  z = listed_in r
+  z = (claim_facts r).read
 
   nothing_missing : missing a a (terms a) ≡ []
   unfolding missing

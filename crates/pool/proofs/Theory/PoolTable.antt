@@ -11,9 +11,10 @@ use Rattle.term.specs.{Number.shape_of, Code.Below}
 use Rattle.term.proofs.Table.{decoded_reads}
 use Rattle.submission.specs.{Record.terms, Record.kind_at, Record.x_at, Record.y_at, Record.record_at, Record.term, Check.Shaped, Check.BadTerm}
 use Rattle.submission.proofs.Theory.{ListedTerms.Listed, ListedNumbers.listed_shape}
+use Rattle.submission.proofs.Theory.{ListedTerms.claim_facts}
 use Rattle.pool.specs.Pool.{pool_number, operands, joined}
 use Rattle.pool.specs.Promise.{Lists}
-use Rattle.pool.proofs.Theory.{JoinAnswer.Joinable, PoolNumbers.InFirst, PoolNumbers.Missing, PoolNumbers.in_or_missing, PoolNumbers.rank_less, PoolBodies.listed_in}
+use Rattle.pool.proofs.Theory.{JoinAnswer.Joinable, PoolNumbers.InFirst, PoolNumbers.Missing, PoolNumbers.in_or_missing, PoolNumbers.rank_less}
 use Rattle.pool.proofs.Theory.MappedRecord.{record_bytes, mapped, kind_same, parts_below, fits_mapped, term_mapped}
 use Rattle.pool.proofs.Theory.PoolRecords.{term_count, first_row, missing_row, number_below, whose}
 
@@ -25,10 +26,10 @@ module _ {a b : List ℕ} (h : Joinable a b) where
   m = pool_number a b
 
   first : Listed a
-  first = listed_in h.first
+  first = (claim_facts h.first).read
 
   other : Listed b
-  other = listed_in h.second
+  other = (claim_facts h.second).read
 
   -- a record of the first stands under its own number
   first_mapped : (n : ℕ) → n < terms a → record_bytes p n ≡ mapped (λ k. k) a n

@@ -13,7 +13,7 @@ use Rattle.term.specs.Term.{decoded}
 use Rattle.term.specs.Reduce.{op, cancelled, parted, paired}
 use Rattle.term.specs.Computed.{match?, is_key?}
 use Rattle.term.specs.Number.{shape_of, head_of, has_one}
-use Rattle.submission.specs.Record.{start_of, record_at, term, guessed}
+use Rattle.submission.specs.Record.{start_of, record_at, term, number_in, guessed}
 use Rattle.submission.specs.Body.{bodies, contents, submission_of}
 use Rattle.submission.specs.Check.{way_of}
 use Rattle.submission.specs.Computed.{bad_contents, bad_term, bad_knowledge, good_claim, checks1to4, checks1to5}
@@ -128,5 +128,5 @@ table =
     ∷ []
 
 pub table_right : map got table ≡ map (λ e. e.wanted) table
-unfolding read_back_answer off_table number fours held registers initial executed any first first_from grow decoded op cancelled parted paired match? is_key? head_of has_one submission_of contents start_of shape_of record_at term guessed way_of bad_contents bad_term bad_knowledge good_claim checks1to4 checks1to5 relation_of instruction_at bad_instruction bad_test bad_program Dec.and ℕ_discrete
+unfolding read_back_answer off_table number number_in fours held registers initial executed any first first_from grow decoded op cancelled parted paired match? is_key? head_of has_one submission_of contents start_of shape_of record_at term guessed way_of bad_contents bad_term bad_knowledge good_claim checks1to4 checks1to5 relation_of instruction_at bad_instruction bad_test bad_program Dec.and ℕ_discrete
 table_right = refl

@@ -1,33 +1,25 @@
 -- Reading back answers as its rows and their order say; and where it is done, each register's term has its number.
-use mathlib.Core.Path.{◌≡◌, sym, ◌∙◌}
+use mathlib.Core.Path.{◌≡◌, sym}
 use mathlib.Core.Logic.{◌↔◌}
 use mathlib.Core.Bool.{false}
 use mathlib.Core.List.{List, [], ◌∷◌}
 use Prim.Native.Nat.{ℕ, ◌<◌}
-use native.Mathlib.Omega.{arith}
-use Rattle.base.specs.{Words.first, Words.byte, Words.Bytes, Answer.Answer, Answer.numbered, Answer.row11, Answer.Answers, Computed.any, Computed.fails_at, Computed.fails_if, Computed.and_then}
-use Rattle.base.proofs.{Says.Says, Says.says_eqb, Says.says_ltb, Says.says_and, Says.says_or, Says.says_not, Says.says_any, Says.denies, Says.not_not_false, First.first_some, First.first_found, FirstGrowing.any_first}
+use Rattle.base.specs.{Words.first, Words.byte, Words.Bytes, Answer.Answer, Answer.numbered, Answer.row11, Answer.Answers, Computed.fails_at, Computed.fails_if, Computed.and_then}
+use Rattle.base.proofs.{Says.Says, Says.says_eqb, Says.says_ltb, Says.says_and, Says.says_or, Says.denies}
 use Rattle.base.proofs.RefusalLaws.{answers_iff, tells_if, tells_at, tells_room, tells_then}
-use Rattle.term.proofs.Reduce.{says_test}
-use Rattle.term.specs.Computed.{term?}
 use Rattle.submission.specs.{Record.terms, Record.entries, Record.term, Computed.checks1to5}
-use Rattle.submission.proofs.Theory.ListedTerms.{Listed}
+use Rattle.submission.proofs.Theory.{ListedTerms.Listed, ListedNumbers.says_unlisted, ListedNumbers.has_number, ListedNumbers.number_some, ListedNumbers.number_unique}
 use Rattle.derivation.specs.Step.{written}
 use Rattle.program.specs.{Program.Instruction, Program.test_at, Computed.bad_program}
 use Rattle.machine.specs.Run.{held}
 use Rattle.machine.proofs.Theory.RunAnswer.{tells_program}
-use Rattle.readback.specs.ReadBack.{holds_number, number, bodies_length, OffTable, NoClaim, read_back_rows}
+use Rattle.readback.specs.ReadBack.{number, bodies_length, OffTable, NoClaim, read_back_rows}
 use Rattle.readback.specs.Computed.{off_table, no_claim, checks_after13, read_back_answer}
-
-says_number : (s P : List ℕ) (r n : ℕ) → Says (holds_number s P r n) (held s P r ≡ term s n)
-says_number s P r n = says_test (term? (held s P r) (term s n))
 
 -- ---- checks 17 and 18
 pub says_off_table : (s P : List ℕ) (r : ℕ) → Says (off_table s P r) (OffTable s P r)
 unfolding off_table
-says_off_table s P r =
-    let (f, g) = says_not (any (holds_number s P r) (terms s)) (says_any {P = λ n. held s P r ≡ term s n} (holds_number s P r) (terms s) (λ n l. says_number s P r n)) in
-    (λ e n l h. f e (n, l, h), λ u. g (λ (n, l, h). u n l h))
+says_off_table s P r = says_unlisted s (held s P r)
 
 pub says_no_claim : (s : List ℕ) (t : Instruction) → Says (no_claim s t) (NoClaim s t)
 says_no_claim s t = says_or _ _ (says_ltb t.left (entries s)) (says_and _ _ (says_eqb t.left (entries s)) (says_eqb t.right (entries s)))
@@ -54,16 +46,13 @@ read_back_exact s P b room =
 pub number_found : (s P : List ℕ) (r : ℕ) → off_table s P r ≡ false → (number s P r < terms s) × (held s P r ≡ term s (number s P r))
 unfolding number off_table
 number_found s P r e =
-    let (n, f) = any_first (holds_number s P r) (terms s) ((not_not_false _).0 e) in
-    let (l, t, _) = first_some (holds_number s P r) (terms s) n f in
-    rw (f, number) (l, (says_number s P r n).0 t)
+    let (n, f) = has_number s (held s P r) e in
+    rw (f, number) (number_some s (held s P r) n f)
 
 -- is the only one
 pub listed_number : {s : List ℕ} → Listed s → (P : List ℕ) (r n : ℕ) → n < terms s → held s P r ≡ term s n → number s P r ≡ n
 unfolding number
-listed_number {s} z P r n l e =
-    let (k, f, b, t) = first_found (holds_number s P r) (terms s) n l ((says_number s P r n).1 e) in
-    rw (f, number) (z.same_number k n (omega arith) l (sym ((says_number s P r k).0 t) ∙ e))
+listed_number {s} z P r n l e = rw (number_unique s (held s P r) z n l e, number)
 
 -- and where it is listed, the register is on the table
 pub listed_on : (s P : List ℕ) (r n : ℕ) → n < terms s → held s P r ≡ term s n → off_table s P r ≡ false

@@ -12,7 +12,7 @@ use Rattle.base.specs.Answer.{Clear}
 use Rattle.base.proofs.{Fours.fours_alike, Grow.grow_alike, First.first_equal}
 use Rattle.term.specs.Term.{atom, atom_kind, void, decoded}
 use Rattle.term.specs.Computed.{term?}
-use Rattle.submission.specs.Record.{terms, entries, kind_at, x_at, y_at, name_at, entry_at, guess, record_at, term, guessed}
+use Rattle.submission.specs.Record.{terms, entries, kind_at, x_at, y_at, name_at, entry_at, guess, record_at, term, is_term, number_in, guessed}
 use Rattle.term.specs.Number.{shape_of}
 use Rattle.submission.specs.Body.{body_at}
 use Rattle.submission.specs.Check.{Range, step_number, term_number, zero_only, step_or_knowledge, row, rows1and2}
@@ -21,7 +21,7 @@ use Rattle.program.specs.Program.{Instruction, instruction_at, test_at}
 use Rattle.machine.specs.Run.{initial, executed, registers, held}
 use Rattle.machine.proofs.Theory.StateGrowth.{decoded_alike}
 use Rattle.form.proofs.Theory.{RoundTrip.body_length, SameBodies.same_byte, SameBodies.same_field}
-use Rattle.readback.specs.{ReadBack.holds_number, ReadBack.number, ReadBack.step_read, ReadBack.way_read, ReadBack.verifying_read, ReadBack.companion_read, ReadBack.claim_read}
+use Rattle.readback.specs.{ReadBack.number, ReadBack.step_read, ReadBack.way_read, ReadBack.verifying_read, ReadBack.companion_read, ReadBack.claim_read}
 
 -- the same counts, and the same bytes of terms and knowledge
 pub record Agree (s s' : List ℕ) : Type 0 where
@@ -85,10 +85,10 @@ module _ {s s' : List ℕ} (a : Agree s s') where
         ∙ ap (λ vs. get_or (grow vs (λ vs i. executed vs (instruction_at P i)) (byte P 0)) r void) (initial_alike (name_at s' (guess s')))
 
     pub number_alike : (P : List ℕ) (r : ℕ) → number s P r ≡ number s' P r
-    unfolding number
+    unfolding number number_in
     number_alike P r =
         ap (λ o. elim o [ none ↦ 0 | some n ↦ n ])
-        (first_equal (holds_number s P r) (holds_number s' P r) (terms s) (λ n b. ap₂ (λ h t. ite (term? h t) true false) (held_alike P r) (term_alike n)) ∙ ap (first (holds_number s' P r)) a.same_terms)
+        (first_equal (is_term s (held s P r)) (is_term s' (held s' P r)) (terms s) (λ n b. ap₂ (λ h t. ite (term? h t) true false) (held_alike P r) (term_alike n)) ∙ ap (first (is_term s' (held s' P r))) a.same_terms)
 
     -- ---- the same bodies
     step_alike : (P : List ℕ) (i : ℕ) → step_read s P i ≡ step_read s' P i

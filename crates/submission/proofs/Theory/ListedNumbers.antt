@@ -1,13 +1,14 @@
 -- The number of a term: where it is listed it is the only one. And a listed term by its record.
-use mathlib.Core.Path.{◌≡◌, sym, ap, ◌∙◌}
-use mathlib.Core.Option.{none, some}
+use mathlib.Core.Path.{◌≡◌, refl, sym, ap, ◌∙◌}
+use mathlib.Core.Bool.{true, false, false≢true, true≢false}
+use mathlib.Core.Option.{Option, none, some}
 use mathlib.Core.List.{List}
 use Prim.Native.Nat.{ℕ, ◌<◌}
 use native.Mathlib.Omega.{arith}
 use Rattle.base.proofs.{Says.Says, Says.denies, First.first_none, First.first_some, First.first_found}
 use Rattle.term.specs.{Term.Term, Term.Shape, Term.shape, Term.message, Number.shape_of, Computed.term?}
 use Rattle.term.proofs.Reduce.{says_test}
-use Rattle.submission.specs.Record.{terms, kind_at, x_at, y_at, name_at, record_of, term, is_term, number_in}
+use Rattle.submission.specs.Record.{terms, kind_at, x_at, y_at, name_at, record_of, term, is_term, number_in, unlisted}
 use Rattle.submission.proofs.Theory.ListedTerms.{Listed, term_at_lem, shape_of_lem}
 
 pub says_term : (s : List ℕ) (t : Term) (n : ℕ) → Says (is_term s t n) (t ≡ term s n)
@@ -22,9 +23,25 @@ module _ (s : List ℕ) (t : Term) where
   unfolding number_in
   number_none e n l = (denies _ (says_term s t n)).0 (first_none (is_term s t) (terms s) e n l)
 
-  pub number_found : Listed s → (n : ℕ) → n < terms s → t ≡ term s n → number_in s t ≡ some n
+  pub says_unlisted : Says (unlisted s t) ((n : ℕ) → n < terms s → t ≡ term s n → ⊥)
+  says_unlisted = go (number_in s t) refl
+    where
+      go : (o : Option ℕ) → number_in s t ≡ o → Says (elim o [ none ↦ true | some n ↦ false ]) ((n : ℕ) → n < terms s → t ≡ term s n → ⊥)
+      go none e = (λ _. number_none e, λ _. refl)
+      go (some n) e = (λ x. absurd (false≢true x), λ f. let (l, h) = number_some n e in absurd (f n l h))
+
+  -- so a term that is listed has a number,
+  pub has_number : unlisted s t ≡ false → (n : ℕ) × (number_in s t ≡ some n)
+  has_number = go (number_in s t) refl
+    where
+      go : (o : Option ℕ) → number_in s t ≡ o → elim o [ none ↦ true | some n ↦ false ] ≡ false → (n : ℕ) × (number_in s t ≡ some n)
+      go none e x = absurd (true≢false x)
+      go (some n) e x = (n, e)
+
+  -- and the only one
+  pub number_unique : Listed s → (n : ℕ) → n < terms s → t ≡ term s n → number_in s t ≡ some n
   unfolding number_in
-  number_found z n l e =
+  number_unique z n l e =
       let (k, f, b, h) = first_found (is_term s t) (terms s) n l ((says_term s t n).1 e) in
       f ∙ ap some (z.same_number k n (omega arith) l (sym ((says_term s t k).0 h) ∙ e))
 

@@ -21,7 +21,7 @@ use Rattle.term.specs.Computed.{is_atomic}
 use Rattle.base.specs.Computed.{passes, fails_if, fails_at}
 use Rattle.submission.specs.{Record.count, Record.least, Record.most, Record.terms, Record.entries, Record.steps, Record.kind_at, Record.x_at, Record.y_at, Record.name_at, Record.entry_at, Record.guess, Record.verifying, Record.way_at, Record.companion, Record.record_of, Record.record_at, Record.term, Computed.are_inverse}
 use Rattle.submission.specs.Check.{HasSecond, Shaped, GuessFits, FitsWay, ClaimFits, Way, another_step, at_start, inverse_key, guess_derived, inverse_derived, way_of, Target, the_guess, its_inverse, Claims, verifier, derived, claims_in, claims, Range, step_number, term_number, zero_only, step_or_knowledge, knowledge_step, row, InRange}
-use Rattle.submission.specs.Code.{TableRead}
+use Rattle.submission.specs.Code.{TableRead, SubmissionRead}
 use Rattle.submission.specs.Computed.{bad_count, bad_contents, in_range, guess_fits, claim_fits, bad_term, bad_knowledge, good_claim, checks1to4, checks1to5}
 use Rattle.base.proofs.AnswerLaws.{if_passes, at_passes, then_passes}
 use Rattle.submission.proofs.Theory.GoodRecord.{second_part, second_below, Good, good, name_bytes, same_record_lem}
@@ -294,6 +294,9 @@ claimed s b e =
       step_range = v;
       in_range_lem = i;
     }
+
+pub claim_facts : {s : List ℕ} → SubmissionRead s → Claimed s
+claim_facts {s} r = claimed s r.bytes r.passed
 
 -- ---- what is claimed
 -- a verifying step is one of the derivation

@@ -12,6 +12,7 @@ use Rattle.base.specs.Computed.{fails_at, fails_if}
 use Rattle.base.proofs.Order.{lt_or_ge}
 use Rattle.base.proofs.Says.{Says, says_eqb, says_ltb, says_not_ltb, says_or, says_not, says_any, refutes, true_or_false}
 use Rattle.base.proofs.RefusalLaws.{Tells, passes_iff, tells_if, tells_at, tells_then}
+use Rattle.submission.specs.Code.{SubmissionRead}
 use Rattle.submission.specs.Record.{count, least, most, terms, entries, entry_at}
 use Rattle.submission.specs.Check.{ContentsFit, row2, rows1and2, rows1to4, rows1to5}
 use Rattle.submission.specs.Computed.{bad_contents, bad_count, check_limits, bad_term, bad_knowledge, good_claim, checks1to4, checks1to5}
@@ -38,6 +39,10 @@ pub tells_1_to_5 : (s : List ℕ) → Bytes s → Tells (checks1to5 s) (rows1to5
 unfolding checks1to5
 tells_1_to_5 s b =
     tells_then (checks1to4 s) (fails_if (not (good_claim s)) 5 0) (tells_1_to_4 s b) (λ _. tells_if (not (good_claim s)) 5 0 (says_not _ (says_claim s)))
+
+-- no row holds of bytes that passed them
+pub rows_clear : {s : List ℕ} → SubmissionRead s → Clear (rows1to5 s)
+rows_clear {s} r = (passes_iff (tells_1_to_5 s r.bytes)).0 r.passed
 
 -- what holds where no row holds
 pub claimed_clear : (s : List ℕ) → Bytes s → Clear (rows1to5 s) → Claimed s
