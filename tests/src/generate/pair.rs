@@ -1,0 +1,278 @@
+//! Pairs of submissions to join, each with a page for the pool.
+
+use super::damage;
+use super::keys::compound;
+use super::limits::padded;
+use super::random::Random;
+use super::table::Table;
+use crate::bodies::{self, Bodies};
+use crate::reference::{self, Joint};
+use crate::tables::{Body, Kind, Way, IN_KNOWLEDGE, LONGEST_SUBMISSION};
+
+pub struct Pair {
+    pub first: Vec<u8>,
+    pub second: Vec<u8>,
+    /// The page before the call.
+    pub page: Vec<u8>,
+    /// Whether it is asked of every term of the two, and of the pool, if it is deducible.
+    pub is_asked: bool,
+}
+
+impl Pair {
+    /// These two, and a page on which every pool has room.
+    pub fn with_room(first: &[u8], second: &[u8]) -> Pair {
+        let page = vec![0xA5; LONGEST_SUBMISSION];
+        Pair { first: first.to_vec(), second: second.to_vec(), page, is_asked: true }
+    }
+
+    /// These two, and a page of any length.
+    fn new(random: &mut Random, first: Vec<u8>, second: Vec<u8>) -> Pair {
+        let joint = Joint::of(&first, &second);
+        let terms = joint.as_ref().map_or(0, |joint| joint.counts()[0]);
+        let pool = joint.and_then(|joint| joint.submission());
+        let length = page_length(random, pool.map_or(LONGEST_SUBMISSION, |pool| pool.len()));
+        let is_asked = terms <= SMALL || random.chance(SAMPLE);
+        Pair { page: random.page(length), first, second, is_asked }
+    }
+}
+
+/// The pools up to this many terms of which every term is asked for, and of how many in 100 larger ones.
+const SMALL: usize = 12;
+const SAMPLE: usize = 3;
+
+/// One pair of the submission and another, either of them first; and one of a kept protocol and another.
+pub fn pairs(random: &mut Random, submission: &[u8], kept: &[Bodies]) -> Vec<Pair> {
+    let other = &kept[random.below(kept.len())];
+    let beside = beside(random, submission, other);
+    let [first, second] = either_way(random, submission.to_vec(), beside);
+    let own = Pair::new(random, first, second);
+    let other = &kept[random.below(kept.len())];
+    let [first, second] = related(random, other);
+    vec![own, Pair::new(random, first, second)]
+}
+
+fn either_way(random: &mut Random, first: Vec<u8>, second: Vec<u8>) -> [Vec<u8>; 2] {
+    if random.chance(70) {
+        [first, second]
+    } else {
+        [second, first]
+    }
+}
+
+/// What to join with a submission: itself, a relative where it passes checks 1 to 5, or the other, which
+/// may be damaged.
+fn beside(random: &mut Random, submission: &[u8], other: &Bodies) -> Vec<u8> {
+    let is_good = reference::guess(submission).is_ok();
+    match random.weighted(&[8, 60, 22, 10]) {
+        0 => submission.to_vec(),
+        1 if is_good => {
+            let own = Bodies::read(submission).expect("check 2 is passed");
+            relative(random, &own).submission()
+        }
+        3 => damaged(random, other),
+        _ => other.submission(),
+    }
+}
+
+/// A protocol and a relative of it, or its messages heard by two, or such as have a pool with counts at a
+/// limit; perhaps with a fault in one of them or in both.
+fn related(random: &mut Random, own: &Bodies) -> [Vec<u8>; 2] {
+    let [first, second] = match random.weighted(&[55, 30, 15]) {
+        0 => [own.clone(), relative(random, own)],
+        1 => shared(random, own),
+        _ => near_limits(random, own),
+    };
+    let (first_is_bad, second_is_bad) =
+        [(false, false), (true, false), (false, true), (true, true)]
+            [random.weighted(&[80, 5, 10, 5])];
+    let mut written = |bodies: &Bodies, is_bad| {
+        if is_bad {
+            damaged(random, bodies)
+        } else {
+            bodies.submission()
+        }
+    };
+    [written(&first, first_is_bad), written(&second, second_is_bad)]
+}
+
+/// Most often refused with one of 1 to 5.
+fn damaged(random: &mut Random, bodies: &Bodies) -> Vec<u8> {
+    match random.weighted(&[30, 20, 50]) {
+        0 => damage::changed_bytes(random, &bodies.submission()),
+        1 => miscounted(random, bodies),
+        _ => damage::changed_records(random, bodies).submission(),
+    }
+}
+
+/// One body with too many records, or with too few.
+fn miscounted(random: &mut Random, own: &Bodies) -> Vec<u8> {
+    let mut bodies = own.bytes();
+    let body = random.pick(&Body::ALL);
+    let is_over = body.least() == 0 || random.chance(50);
+    let count = if is_over { body.most() + 1 } else { body.least() - 1 };
+    let zeros = vec![0; count * body.record()];
+    bodies[body as usize] = &zeros;
+    bodies::submission(bodies)
+}
+
+/// The protocol without some of its messages, and a relative of it that most often has these.
+fn shared(random: &mut Random, own: &Bodies) -> [Bodies; 2] {
+    let mut first = own.clone();
+    let missed = random.pick(&[10, 30, 100]);
+    first.knowledge.retain(|_| !random.chance(missed));
+    [first, relative(random, own)]
+}
+
+/// A submission over some of these terms, listed in another order and with others among them; some of
+/// what is known here and other terms are known. It passes checks 1 to 5.
+pub fn relative(random: &mut Random, own: &Bodies) -> Bodies {
+    let mut listing = Listing::of(own);
+    let share = random.pick(&[0, 25, 60, 100, 100]);
+    let strangers = random.pick(&[0, 0, 10, 40]);
+    let mut order: Vec<u8> = listing.own.numbers().filter(|_| random.chance(share)).collect();
+    random.shuffle(&mut order);
+    let mut room = Body::Terms.most() - own.terms.len();
+    for number in order {
+        if room > 0 && random.chance(strangers) {
+            stranger(random, &mut listing.table);
+            room -= 1;
+        }
+        listing.list(number);
+    }
+    if listing.table.records.is_empty() {
+        listing.table.atom(random.pick(&Kind::atoms()), random.number() as u16);
+    }
+    let knowledge = knowledge(random, own, &listing);
+    let derivation: Vec<[u8; 4]> =
+        (0..random.pick(&[0, 1, 2, 5])).map(|_| [(); 4].map(|()| random.byte())).collect();
+    let claim = claim(random, &listing.table, derivation.len());
+    Bodies { terms: listing.table.records, knowledge, derivation, claim }
+}
+
+/// The terms of a table, listed anew in another.
+struct Listing {
+    own: Table,
+    table: Table,
+    /// The new number of each term that is listed.
+    numbers: Vec<Option<u8>>,
+}
+
+impl Listing {
+    fn of(bodies: &Bodies) -> Listing {
+        let numbers = vec![None; bodies.terms.len()];
+        Listing { own: Table::of(&bodies.terms), table: Table::default(), numbers }
+    }
+
+    /// Lists the term with this number after its parts. Answers its new number.
+    fn list(&mut self, number: u8) -> u8 {
+        if let Some(listed) = self.numbers[usize::from(number)] {
+            return listed;
+        }
+        let listed = match self.own.as_atom(number) {
+            Some((kind, name)) => self.table.atom(kind, name),
+            None => {
+                let kind = self.own.kind(number).expect("check 3 leaves kinds");
+                let (_, operands) = self.own.as_compound(number).expect("no atom");
+                let operands: Vec<u8> =
+                    operands.to_vec().into_iter().map(|operand| self.list(operand)).collect();
+                self.table.compound(kind, &operands)
+            }
+        };
+        self.numbers[usize::from(number)] = Some(listed);
+        listed
+    }
+
+    fn known(&self, entry: u8) -> Option<u8> {
+        self.numbers[usize::from(entry)]
+    }
+}
+
+/// Lists a term of another kind or name than those there, most often; or a compound of these.
+fn stranger(random: &mut Random, table: &mut Table) {
+    let kind = random.pick(&Kind::atoms());
+    match random.below(3) {
+        0 if !table.records.is_empty() => compound(random, table),
+        1 if !table.records.is_empty() => {
+            let near = bodies::name(random.pick(&table.records)) ^ random.pick(&[0, 1, 0x100]);
+            table.atom(kind, near);
+        }
+        _ => drop(table.atom(kind, random.number() as u16)),
+    }
+}
+
+/// Some of the own entries and some other terms, in any order.
+fn knowledge(random: &mut Random, own: &Bodies, listing: &Listing) -> Vec<u8> {
+    let [heard, besides] = [random.pick(&[0, 50, 100]), random.pick(&[0, 5, 15, 40])];
+    let entries: Vec<u8> = own.knowledge.iter().filter_map(|&entry| listing.known(entry)).collect();
+    let is_heard =
+        |number: &u8| random.chance(if entries.contains(number) { heard } else { besides });
+    let mut knowledge: Vec<u8> = listing.table.numbers().filter(is_heard).collect();
+    random.shuffle(&mut knowledge);
+    knowledge.truncate(Body::Knowledge.most());
+    knowledge
+}
+
+/// A claim that passes check 5, with so many steps.
+fn claim(random: &mut Random, table: &Table, steps: usize) -> [u8; 4] {
+    let guess = random.pick(&table.of_kinds(&Kind::atoms()));
+    let kind = table.kind(guess).expect("a listed term");
+    if steps == 0 {
+        return [guess, IN_KNOWLEDGE, Way::DeducibleGuess.letter(), 0];
+    }
+    let ways: Vec<Way> = Way::ALL.into_iter().filter(|way| way.guesses().contains(&kind)).collect();
+    let way = random.pick(&ways);
+    let companion = random.below(way.companion().values(steps, table.records.len()));
+    [guess, random.below(steps) as u8, way.letter(), companion as u8]
+}
+
+/// The counts of the pool that are aimed at: at a limit, next to it, such as are within it in their low
+/// byte, or far over it.
+const TERMS: [usize; 8] = [200, 249, 250, 250, 251, 251, 256, 400];
+const ENTRIES: [usize; 8] = [20, 63, 64, 64, 65, 65, 66, 128];
+
+/// The protocol and a relative of it, padded with terms and entries until their pool has so many, or as
+/// many as it can have.
+fn near_limits(random: &mut Random, own: &Bodies) -> [Bodies; 2] {
+    let [terms, entries] = [random.pick(&TERMS), random.pick(&ENTRIES)];
+    let fill = random.pick(&[own.terms.len(), 100, 180, Body::Terms.most()]);
+    let known = random.pick(&[0, 30, Body::Knowledge.most()]).min(entries);
+    let first = padded(own, fill.min(terms), known, 0);
+    let model = if random.chance(50) { own } else { &first };
+    let mut second = relative(random, model);
+    let joint = Joint::of(&first.submission(), &second.submission());
+    let Ok([pooled_terms, pooled_entries]) = joint.map(|joint| joint.counts()) else {
+        return [first, second];
+    };
+    let room = Body::Terms.most() - second.terms.len();
+    let fresh = fresh(&first, &second, terms.saturating_sub(pooled_terms).min(room));
+    let room = Body::Knowledge.most() - second.knowledge.len();
+    let missing = entries.saturating_sub(pooled_entries).min(room);
+    let start = second.terms.len();
+    second.knowledge.extend((start..start + fresh.len()).take(missing).map(|number| number as u8));
+    second.terms.extend(fresh);
+    [first, second]
+}
+
+/// So many atoms that neither of the two lists.
+fn fresh(first: &Bodies, second: &Bodies, count: usize) -> Vec<[u8; 3]> {
+    let atoms = (0..=u16::MAX).rev().map(|name| {
+        let [high, low] = name.to_be_bytes();
+        [Kind::Plain.number(), high, low]
+    });
+    let is_listed = |atom: &[u8; 3]| first.terms.contains(atom) || second.terms.contains(atom);
+    atoms.filter(|atom| !is_listed(atom)).take(count).collect()
+}
+
+/// The length of a page for a pool of so many bytes: none, too short, exact, longer, or one that is too
+/// short in its low two bytes.
+fn page_length(random: &mut Random, needed: usize) -> usize {
+    match random.weighted(&[5, 10, 5, 30, 20, 29, 1]) {
+        0 => 0,
+        1 => needed - 1,
+        2 => random.below(needed),
+        3 => needed,
+        4 => needed + random.between(1, 20),
+        5 => LONGEST_SUBMISSION,
+        _ => 65_536 + random.below(needed),
+    }
+}
