@@ -4,12 +4,14 @@
 use super::names::Names;
 use super::program::{repeated, shortest};
 use super::shapes::{self, Naming, Nesting, Order, Secrets};
-use super::{astray, claimed_term, farthest, Form, Input, Pair, Sent, Sheet, UNLISTED};
+use super::{
+    astray, claimed_term, farthest, joinable, turned, Form, Input, Pair, Sent, Sheet, UNLISTED,
+};
 use crate::bodies::Bodies;
 use crate::reference;
 use crate::tables::{
-    Body, Kind, Rule, Test, Way, IN_KNOWLEDGE, LONGEST_PROGRAM, LONGEST_READ_BACK,
-    LONGEST_SUBMISSION, SHORTEST_SHEET,
+    Body, Kind, Rule, Test, Way, LONGEST_PROGRAM, LONGEST_READ_BACK, LONGEST_SUBMISSION,
+    SHORTEST_SHEET,
 };
 
 /// The inputs, each with a title.
@@ -106,21 +108,22 @@ fn input(bodies: &Bodies) -> Input {
     }
 }
 
-/// The terms and the knowledge with a claim that passes check 5: joined with themselves, and, but for the
-/// last terms, with others that come before them or after.
+/// The terms and the knowledge with a claim that passes check 5: joined with themselves, in the same order
+/// and from the last on; and, but for the last terms, with others that come before them or after.
 fn pairs(bodies: &Bodies) -> Vec<Pair> {
-    let claim = [0, IN_KNOWLEDGE, Way::DeducibleGuess.letter(), 0];
-    let whole = Bodies { claim, ..bodies.clone() };
+    let whole = joinable(bodies);
     let others = [1, 2, 3].map(|low| [Kind::Plain.number(), u8::MAX, low]);
-    let others = Bodies { terms: others.to_vec(), claim, ..Bodies::default() };
+    let others = joinable(&Bodies { terms: others.to_vec(), ..Bodies::default() });
     let terms = whole.terms.len().min(Body::Terms.most() - others.terms.len());
     let mut cut = whole.clone();
     cut.terms.truncate(terms);
     cut.knowledge.retain(|&entry| usize::from(entry) < terms);
-    let [whole, cut, others] = [whole, cut, others].map(|bodies| bodies.submission());
-    [[&whole, &whole], [&others, &cut], [&cut, &others]]
-        .map(|[first, second]| Pair::with_room(first, second))
-        .into()
+    let turned = turned(&whole);
+    let [whole, cut, others, turned] =
+        [whole, cut, others, turned].map(|bodies| bodies.submission());
+    let pairs = [[&whole, &whole], [&whole, &turned], [&others, &cut], [&cut, &others]];
+    let with_room = pairs.map(|[first, second]| Pair::with_room(first, second));
+    with_room.map(|pair| Pair { is_asked: false, ..pair }).into()
 }
 
 /// The submission's own program, where it is accepted, as it is and with another last instruction; and

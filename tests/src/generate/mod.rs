@@ -29,7 +29,7 @@ use shapes::{Nesting, Order, Secrets};
 pub use deepest::deepest;
 pub use form::Form;
 pub use limits::padded;
-pub use pair::Pair;
+pub use pair::{joinable, turned, Pair};
 pub use program::{repeated, shortest};
 pub use sent::{astray, Sent};
 pub use sheet::{farthest, Sheet};

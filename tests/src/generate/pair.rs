@@ -14,7 +14,7 @@ pub struct Pair {
     pub second: Vec<u8>,
     /// The page before the call.
     pub page: Vec<u8>,
-    /// Whether it is asked of every term of the two, and of the pool, if it is deducible.
+    /// Whether the pool is looked through, and each term of the two and of the pool asked for.
     pub is_asked: bool,
 }
 
@@ -27,17 +27,14 @@ impl Pair {
 
     /// These two, and a page of any length.
     fn new(random: &mut Random, first: Vec<u8>, second: Vec<u8>) -> Pair {
-        let joint = Joint::of(&first, &second);
-        let terms = joint.as_ref().map_or(0, |joint| joint.counts()[0]);
-        let pool = joint.and_then(|joint| joint.submission());
-        let length = page_length(random, pool.map_or(LONGEST_SUBMISSION, |pool| pool.len()));
-        let is_asked = terms <= SMALL || random.chance(SAMPLE);
+        let length = page_length(random, &first, &second);
+        let is_asked = first.len() + second.len() <= SMALL || random.chance(SAMPLE);
         Pair { page: random.page(length), first, second, is_asked }
     }
 }
 
-/// The pools up to this many terms of which every term is asked for, and of how many in 100 larger ones.
-const SMALL: usize = 12;
+/// The pairs up to this many bytes of which it is asked, and of how many in 100 longer ones.
+const SMALL: usize = 100;
 const SAMPLE: usize = 3;
 
 /// One pair of the submission and another, either of them first; and one of a kept protocol and another.
@@ -115,12 +112,45 @@ fn miscounted(random: &mut Random, own: &Bodies) -> Vec<u8> {
     bodies::submission(bodies)
 }
 
-/// The protocol without some of its messages, and a relative of it that most often has these.
+/// The protocol without some of its messages, and a relative of it that may have these. Perhaps besides a
+/// message that the first has heard, and its key, that the second may have.
 fn shared(random: &mut Random, own: &Bodies) -> [Bodies; 2] {
-    let mut first = own.clone();
+    let [mut first, mut other] = [own.clone(), own.clone()];
     let missed = random.pick(&[10, 30, 100]);
     first.knowledge.retain(|_| !random.chance(missed));
-    [first, relative(random, own)]
+    let mut table = Table::of(&own.terms);
+    let term = random.pick(&table.numbers().collect::<Vec<u8>>());
+    if table.records.len() + 2 <= Body::Terms.most() && random.chance(50) {
+        let key = table.atom(Kind::Plain, random.number() as u16);
+        let message = table.compound(Kind::Enc, &[term, key]);
+        [first.terms, other.terms] = [table.records.clone(), table.records];
+        know(&mut first, message);
+        know(&mut other, key);
+    }
+    [first, relative(random, &other)]
+}
+
+/// Adds an entry, where there is room and it is not there yet.
+fn know(bodies: &mut Bodies, entry: u8) {
+    if bodies.knowledge.len() < Body::Knowledge.most() && !bodies.knowledge.contains(&entry) {
+        bodies.knowledge.push(entry);
+    }
+}
+
+/// The same, with a claim that passes check 5 whatever the terms: the first of them is an atom.
+pub fn joinable(own: &Bodies) -> Bodies {
+    let claim = [0, IN_KNOWLEDGE, Way::DeducibleGuess.letter(), 0];
+    Bodies { claim, ..own.clone() }
+}
+
+/// The same terms, listed from the last on, each after its parts, and the same knowledge; with such a claim.
+pub fn turned(own: &Bodies) -> Bodies {
+    let mut listing = Listing::of(own);
+    for number in listing.own.numbers().rev() {
+        listing.list(number);
+    }
+    let knowledge = own.knowledge.iter().filter_map(|&entry| listing.known(entry)).collect();
+    joinable(&Bodies { terms: listing.table.records, knowledge, ..Bodies::default() })
 }
 
 /// A submission over some of these terms, listed in another order and with others among them; some of
@@ -263,16 +293,18 @@ fn fresh(first: &Bodies, second: &Bodies, count: usize) -> Vec<[u8; 3]> {
     atoms.filter(|atom| !is_listed(atom)).take(count).collect()
 }
 
-/// The length of a page for a pool of so many bytes: none, too short, exact, longer, or one that is too
-/// short in its low two bytes.
-fn page_length(random: &mut Random, needed: usize) -> usize {
-    match random.weighted(&[5, 10, 5, 30, 20, 29, 1]) {
+/// The length of a page for the pool: none, too short, exact, longer, or one that is too short in its low
+/// two bytes.
+fn page_length(random: &mut Random, first: &[u8], second: &[u8]) -> usize {
+    let pool = || Joint::of(first, second).and_then(|joint| joint.submission());
+    let needed = || pool().map_or(LONGEST_SUBMISSION, |pool| pool.len());
+    match random.weighted(&[5, 10, 5, 25, 10, 44, 1]) {
         0 => 0,
-        1 => needed - 1,
-        2 => random.below(needed),
-        3 => needed,
-        4 => needed + random.between(1, 20),
+        1 => needed() - 1,
+        2 => random.below(needed()),
+        3 => needed(),
+        4 => needed() + random.between(1, 20),
         5 => LONGEST_SUBMISSION,
-        _ => 65_536 + random.below(needed),
+        _ => 65_536 + random.below(needed()),
     }
 }

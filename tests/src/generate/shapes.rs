@@ -143,6 +143,18 @@ pub fn atoms(kinds: &[Kind], naming: Naming) -> Bodies {
     Bodies { terms: table.records, ..Bodies::default() }
 }
 
+/// Atoms up to half of the limit on terms, then a hash of each. No step, so check 5 refuses it.
+pub fn hashed(naming: Naming) -> Bodies {
+    let mut table = Table::default();
+    let half = Body::Terms.most() / 2;
+    let atoms: Vec<u8> =
+        (0..half).map(|index| table.atom(Kind::Plain, naming.name(index))).collect();
+    for atom in atoms {
+        table.compound(Kind::Hash, &[atom]);
+    }
+    Bodies { terms: table.records, ..Bodies::default() }
+}
+
 /// Keys of different names up to the limit on terms, beside what verifies the guess: as many of the first
 /// kind as of the next. Nobody knows them.
 pub fn keys_beside(kinds: &[Kind], naming: Naming) -> Bodies {

@@ -53,8 +53,8 @@ fn compare_join(
     compare_pool(input, pair, &joint.numbers(), pool, pooled, tally)
 }
 
-/// The pool has the terms and the knowledge of both, with each of the first's terms under its number, and
-/// is found again where it is joined with either, as the first is where it is joined with itself.
+/// The pool is given again where it is joined with either, as the first is where it is joined with itself;
+/// and what else is promised of it.
 fn compare_pool(
     input: &Input,
     pair: &Pair,
@@ -63,10 +63,6 @@ fn compare_pool(
     found: &Pooled,
     tally: &mut Tally,
 ) -> Result<(), String> {
-    match numbers_in_pool(&pair.first, &pair.second, pool) {
-        Ok(found) => same_bytes(input, "the numbers in the pool", numbers, &found)?,
-        Err(fault) => return Err(difference(input, "the pool", &format!("{fault:?}"))),
-    }
     for ((what, expected), found) in [
         ("the first, joined with itself", &pair.first[..]),
         ("the pool, joined with the first", pool),
@@ -83,8 +79,19 @@ fn compare_pool(
     tally.pools.count_pool(&pooled);
     compare_verdicts(input, pair, pool, &pooled, found, tally)?;
     match &found.deducible {
-        Some(deducible) => compare_deducible(input, pool, &pooled, deducible, tally),
+        Some(deducible) => {
+            compare_numbers(input, pair, pool, numbers)?;
+            compare_deducible(input, pair, pool, &pooled, deducible, tally)
+        }
         None => Ok(()),
+    }
+}
+
+/// The pool has the terms and the knowledge of both, with each of the first's terms under its number.
+fn compare_numbers(input: &Input, pair: &Pair, pool: &[u8], numbers: &[u8]) -> Result<(), String> {
+    match numbers_in_pool(&pair.first, &pair.second, pool) {
+        Ok(found) => same_bytes(input, "the numbers in the pool", numbers, &found),
+        Err(fault) => Err(difference(input, "the pool", &format!("{fault:?}"))),
     }
 }
 
@@ -127,27 +134,40 @@ fn steps(submission: &[u8]) -> Checked<u8> {
     Ok(reference::program(submission)?[0])
 }
 
-/// What is deducible from the first or from the second is so from the pool, under its number there.
+/// What is deducible from each of the three. What is so from the first or from the second is so from the
+/// pool, under its number there.
 fn compare_deducible(
     input: &Input,
+    pair: &Pair,
     pool: &[u8],
     pooled: &Pool,
     found: &[Vec<u32>; 3],
     tally: &mut Tally,
 ) -> Result<(), String> {
+    let submissions = [("first", &pair.first[..]), ("second", &pair.second), ("pool", pool)];
+    for ((what, submission), found) in submissions.into_iter().zip(found) {
+        compare_each(input, what, submission, found)?;
+    }
     let [in_first, in_second, in_pool] = found;
-    let deductions = Deductions::of(pool).expect("the pool passes checks 1 to 4");
     for (number, &found) in in_pool.iter().enumerate() {
-        let call = format!("deducible {number} in the pool");
-        let expected = code(deductions.deducible(number as u8));
-        same(input, &call, expected, found)?;
-        let of_first = in_first.get(number);
+        let of_first = in_first.get(number).copied();
         let of_second = pooled.number_in_second(number).map(|number| in_second[number]);
-        let given = [of_first.copied(), of_second].map(|answer| answer == Some(1));
-        if given.contains(&true) {
-            same(input, format!("{call}, deducible from one of the two"), 1, found)?;
+        let by = [of_first, of_second].map(|answer| answer == Some(1));
+        if by.contains(&true) {
+            let call = format!("deducible {number} in the pool, and so from one of the two");
+            same(input, call, 1, found)?;
         }
-        tally.pools.count_given(pooled, number, &Given { by: given, by_pool: found == 1 });
+        tally.pools.count_given(pooled, number, &Given { by, by_pool: found == 1 });
+    }
+    Ok(())
+}
+
+/// What deducible answers for each term.
+fn compare_each(input: &Input, what: &str, submission: &[u8], found: &[u32]) -> Result<(), String> {
+    let deductions = Deductions::of(submission).expect("checks 1 to 4 are passed");
+    for (number, &found) in found.iter().enumerate() {
+        let expected = code(deductions.deducible(number as u8));
+        same(input, format_args!("deducible {number} in the {what}"), expected, found)?;
     }
     Ok(())
 }
