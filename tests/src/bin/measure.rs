@@ -38,9 +38,8 @@ const GROWING: [usize; 5] = [25, 50, 100, 200, 250];
 /// The kinds of keys that have an inverse.
 const KEYS: [Kind; 2] = [Kind::Public, Kind::Private];
 
-/// An example of about twenty terms, and one with the same messages.
+/// An example of about twenty terms.
 const TYPICAL: &str = "003-needham-schroeder-kas";
-const OTHER: &str = "003-needham-schroeder-kab";
 
 /// An atom that no shape lists.
 const UNLISTED_ATOM: [u8; 3] = [Kind::Plain.number(), u8::MAX, u8::MAX];
@@ -241,16 +240,15 @@ fn sent_programs() -> Vec<(String, Vec<u8>, Vec<u8>)> {
 /// records of hashes in the number of the part.
 fn pairs() -> Vec<(String, Vec<u8>, Vec<u8>)> {
     let most = Body::Terms.most();
-    let typical = examples::submission(TYPICAL);
-    let m1 = examples::submission("M1");
-    let mut pairs = vec![
-        ("M1 with itself".to_string(), m1.clone(), m1),
-        (
-            "typical (Needham-Schroeder) with another".to_string(),
-            typical,
-            examples::submission(OTHER),
-        ),
+    let examples = [
+        ("M1 with itself", "M1", "M1"),
+        ("typical (Needham-Schroeder), the same run", TYPICAL, "003-needham-schroeder-kab"),
+        ("two runs (Denning Sacco)", "003-denning-sacco-kas", "003-denning-sacco-kac-shown"),
     ];
+    let submissions = |(title, first, second): (&str, &str, &str)| {
+        (title.to_string(), examples::submission(first), examples::submission(second))
+    };
+    let mut pairs = examples.map(submissions).to_vec();
     let mut add = |title: String, first: &Bodies, second: &Bodies| {
         pairs.push((title, first.submission(), second.submission()));
     };
@@ -286,7 +284,6 @@ fn full_of_entries() -> [Bodies; 2] {
     first.knowledge = (most - entries..most).collect();
     let mut second = first.clone();
     second.knowledge.reverse();
-    second.knowledge.rotate_right(1);
     second.knowledge[usize::from(entries) - 1] = 0;
     [first, second]
 }
