@@ -4,7 +4,7 @@
 use checker_tests::bodies::Bodies;
 use checker_tests::generate::Pair;
 use checker_tests::reference::{self, Checked, Refusal};
-use checker_tests::tables::{Body, Call, Claimed, Kind, Reason, Way};
+use checker_tests::tables::{Body, Call, Claimed, Kind, Reason, Way, LONGEST_SUBMISSION};
 
 use crate::tally::{cells, way_title};
 
@@ -313,7 +313,7 @@ const ANSWERS: [AnswerRow; 15] = [
         answer.is_overfull(|[terms, entries]| terms > u8::MAX.into() && entries <= K)
     }),
     ("20, empty page", |answer| answer.is(Reason::Overfull) && answer.page == 0),
-    ("20, longest page", |answer| answer.is(Reason::Overfull) && answer.page >= 1_346),
+    ("20, longest page", |answer| answer.is(Reason::Overfull) && answer.page >= LONGEST_SUBMISSION),
     ("11, empty page", |answer| answer.is(Reason::Page) && answer.page == 0),
     ("11, a byte short", |answer| {
         answer.expected.is_err_and(|refusal| {
@@ -344,13 +344,15 @@ enum Side {
     Second,
 }
 
-impl Side {
-    const ALL: [(&'static str, Side); 3] = [
-        ("refused, first", Side::First),
-        ("refused, first of 2", Side::FirstOfBoth),
-        ("refused, second", Side::Second),
-    ];
-}
+/// A row of refusals of one of the two: its title, and whether it counts one on a page of this length.
+type RefusedRow = (&'static str, fn(Side, usize) -> bool);
+
+const REFUSED: [RefusedRow; 4] = [
+    ("refused, first", |side, _| side == Side::First),
+    ("refused, first of 2", |side, _| side == Side::FirstOfBoth),
+    ("refused, second", |side, _| side == Side::Second),
+    ("refused, empty page", |_, page| page == 0),
+];
 
 /// The refusals of one submission, and a count at each of the places.
 const CHECKS: [(Reason, Option<Body>); 8] = [
@@ -382,7 +384,7 @@ type Counts<'a> = (&'static str, fn(Kind) -> bool, &'a ByKind);
 
 #[derive(Default)]
 pub struct Pools {
-    refused: [[u64; CHECKS.len()]; Side::ALL.len()],
+    refused: [[u64; CHECKS.len()]; REFUSED.len()],
     answers: [u64; ANSWERS.len()],
     pools: [u64; POOLS.len()],
     terms: [ByKind; TERMS.len()],
@@ -416,9 +418,9 @@ impl Pools {
             (Some(first), Some(second)) if first != second => Side::FirstOfBoth,
             _ => Side::First,
         };
-        for (counts, (_, row)) in self.refused.iter_mut().zip(Side::ALL) {
+        for (counts, (_, holds)) in self.refused.iter_mut().zip(REFUSED) {
             for (count, check) in counts.iter_mut().zip(CHECKS) {
-                *count += u64::from(row == side && is_check(check, refusal));
+                *count += u64::from(holds(side, pair.page.len()) && is_check(check, refusal));
             }
         }
     }
@@ -463,7 +465,7 @@ impl Pools {
 
     pub fn print(&self) {
         println!("{}", cells("join", CHECKS, check_title));
-        for (counts, (title, _)) in self.refused.iter().zip(Side::ALL) {
+        for (counts, (title, _)) in self.refused.iter().zip(REFUSED) {
             println!("{}", cells(title, counts, |count| count));
         }
         println!();
@@ -500,7 +502,7 @@ impl Pools {
     /// What should have been reached and was not.
     pub fn missing(&self) -> Vec<String> {
         let mut missing = Vec::new();
-        for (counts, (title, _)) in self.refused.iter().zip(Side::ALL) {
+        for (counts, (title, _)) in self.refused.iter().zip(REFUSED) {
             let never = CHECKS.into_iter().zip(counts).filter(|(_, &count)| count == 0);
             missing.extend(never.map(|(check, _)| format!("{title}: {}", check_title(check))));
         }
