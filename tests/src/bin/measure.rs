@@ -112,6 +112,10 @@ fn submissions() -> Vec<(String, Vec<u8>)> {
             shapes::atoms(&[Kind::Plain], Naming::OneLowByte).submission(),
         ),
         (
+            "250 atoms with the longest lookup".to_string(),
+            shapes::atoms(&[Kind::Plain], Naming::LongestLookup).submission(),
+        ),
+        (
             "247 keys with one low byte, no pair".to_string(),
             shapes::keys_beside(&KEYS, Naming::OneLowByte).submission(),
         ),
@@ -201,6 +205,7 @@ fn key_tables() -> Vec<(&'static str, Vec<u8>)> {
         ("125 pairs of keys", atoms(&KEYS, Naming::BothBytes)),
         ("125 pairs of keys with one low byte", atoms(&KEYS, Naming::OneLowByte)),
         ("250 public keys with one low byte", atoms(&[Kind::Public], Naming::OneLowByte)),
+        ("250 public keys with the longest lookup", atoms(&[Kind::Public], Naming::LongestLookup)),
         (
             "247 keys with one low byte, no pair",
             shapes::keys_beside(&KEYS, Naming::OneLowByte).submission(),
@@ -252,9 +257,11 @@ fn pairs() -> Vec<(String, Vec<u8>, Vec<u8>)> {
     let mut add = |title: String, first: &Bodies, second: &Bodies| {
         pairs.push((title, first.submission(), second.submission()));
     };
-    for (word, naming) in
-        [("atoms", Naming::BothBytes), ("atoms with one low byte", Naming::OneLowByte)]
-    {
+    for (word, naming) in [
+        ("atoms", Naming::BothBytes),
+        ("atoms with one low byte", Naming::OneLowByte),
+        ("atoms with the longest lookup", Naming::LongestLookup),
+    ] {
         let atoms = joinable(&shapes::atoms(&[Kind::Plain], naming));
         let [front, back] = [&atoms.terms[..most / 2], &atoms.terms[most / 2..]]
             .map(|terms| Bodies { terms: terms.to_vec(), ..atoms.clone() });

@@ -113,11 +113,13 @@ pub fn largest_deducible(way: Way, is_entry: bool) -> Bodies {
     bodies
 }
 
-/// How atoms are named: so that both bytes of their names differ, or the high byte only.
+/// How atoms are named: so that both bytes of their names differ, or the high byte only; or so that the
+/// checker, where it looks for an equal record, looks at as many others as it can, which was found by trying.
 #[derive(Clone, Copy)]
 pub enum Naming {
     BothBytes,
     OneLowByte,
+    LongestLookup,
 }
 
 impl Naming {
@@ -127,6 +129,7 @@ impl Naming {
         match self {
             Naming::BothBytes => u16::from_be_bytes([index.wrapping_mul(37), index]),
             Naming::OneLowByte => u16::from_be_bytes([index, 5]),
+            Naming::LongestLookup => u16::from_be_bytes([index.wrapping_mul(195), index]),
         }
     }
 }
