@@ -1,4 +1,4 @@
-/* The checker's seven calls, in libchecker.a (tests/library). bindings/ has an example in C, and a safe wrapper for Rust.
+/* The checker's eight calls, in libchecker.a (tests/library). bindings/ has an example in C, and a safe wrapper for Rust.
 
    Answers. Every call takes any bytes and ends. An answer is one number. A refusal is number * 65536 + place, with the numbers and
    places of docs/VERDICTS.md; every other answer is below 65536. That each call answers what the definitions under crates/ give, and
@@ -105,6 +105,26 @@ uint32_t checker_read_back(const uint8_t *sub, size_t sub_len, const uint8_t *pr
    A refusal is 1 to 4, then 12 for a number not below T, then 19 for a page under 1,000 bytes, with 1,000 as place, and leaves the page as
    it was. The derivation and the claim of the submission are counted only. A page of 1,000 bytes is never too short. */
 uint32_t checker_deduction(const uint8_t *sub, size_t sub_len, uint8_t term, uint8_t *page, size_t page_len);
+
+/* Joins two submissions: pools what two listeners have heard. The page gets the pool as a submission, contents first:
+
+     - the first's terms, byte for byte, then those of the second that the first lacks, in order and renumbered: a part gets its number
+       in the pool. Terms are compared as what they are and not by their bytes: a term of the second that the first has, under whatever
+       number, is not added, and what is made from it gets the first's number for it. Atoms are the same where kind and name are;
+     - the first's knowledge, then the second's entries that are not there yet, in order and under their numbers in the pool;
+     - the first's derivation and claim. Those of the second are looked at by checks 1 to 5 only.
+
+   The answer is the count of bytes written, which are the first of the page; the others are as before. A refusal is 1 to 5 for the first
+   submission, then 1 to 5 for the second, and doesn't say which of the two is meant; then 20 for a pool above 250 terms or above 64
+   entries, then 11, with the pool's length as place. It leaves the page as it was. A page of 1,346 bytes is never too short. The two
+   submissions may be one buffer.
+
+   The pool passes checks 1 to 5. Its terms are exactly those of the two, its knowledge is exactly their messages, and each term of the
+   first keeps its number. A term deducible from either is deducible from the pool, under its number there. So a first submission that is
+   accepted may become reachable: on a page that is long enough, checker_check accepts the pool with the same N, or refuses it with 8 at
+   the verifying step, and answers nothing else; in ways k and j it accepts it. A submission joined with itself is given back, and so is
+   the pool, joined with either of the two. */
+uint32_t checker_join(const uint8_t *first, size_t first_len, const uint8_t *second, size_t second_len, uint8_t *page, size_t page_len);
 
 #ifdef __cplusplus
 }

@@ -27,6 +27,16 @@ static const uint8_t KNOWN_PAIR[] = {
 static const uint8_t FIRST_PART[] = {0x01, 0x02, 0x00, 0x00};
 enum { SHEET = 1000 };
 
+/* M2, which lists M1's terms and has the last alone in its knowledge; and the pool of M2 with M1. */
+static const uint8_t M2[] = {
+    0x54, 0x03, 0x00, 0x10, 0x4B, 0x01, 0x00, 0x19, 0x44, 0x01, 0x00, 0x1A, 0x56, 0x01, 0x00, 0x1E, 0x01,
+    0x00, 0x01, 0x01, 0x00, 0x02, 0x05, 0x00, 0x01, 0x02, 0x04, 0x02, 0x01, 0x00, 0x01, 0x00, 0x62, 0x00,
+};
+static const uint8_t POOL[] = {
+    0x54, 0x03, 0x00, 0x10, 0x4B, 0x02, 0x00, 0x19, 0x44, 0x01, 0x00, 0x1B, 0x56, 0x01, 0x00, 0x1F, 0x01, 0x00,
+    0x01, 0x01, 0x00, 0x02, 0x05, 0x00, 0x01, 0x02, 0x00, 0x04, 0x02, 0x01, 0x00, 0x01, 0x00, 0x62, 0x00,
+};
+
 /* Where M1's bodies start, and how long they are. */
 enum { TERMS = 16, KNOWLEDGE = 25, DERIVATION = 27, CLAIM = 31 };
 enum { TERMS_LEN = 9, KNOWLEDGE_LEN = 2, DERIVATION_LEN = 4, CLAIM_LEN = 4 };
@@ -69,6 +79,10 @@ static void try_null(void)
     expect("deduction, nothing", REFUSED(1, 0), checker_deduction(NULL, 0, 0, NULL, 0));
     expect("deduction, no page", REFUSED(19, SHEET), checker_deduction(M1, sizeof M1, 0, NULL, 0));
     expect("deduction, no term, no page", REFUSED(12, 0), checker_deduction(M1, sizeof M1, 3, NULL, 0));
+    expect("join, no first", REFUSED(1, 0), checker_join(NULL, 0, M1, sizeof M1, page, sizeof page));
+    expect("join, no second", REFUSED(1, 0), checker_join(M1, sizeof M1, NULL, 0, page, sizeof page));
+    expect("join, nothing", REFUSED(1, 0), checker_join(NULL, 0, NULL, 0, NULL, 0));
+    expect("join, no page", REFUSED(11, sizeof M1), checker_join(M1, sizeof M1, M1, sizeof M1, NULL, 0));
 }
 
 static void try_null_bodies(void)
@@ -153,6 +167,32 @@ static void try_deduction_offset(size_t offset)
     }
 }
 
+/* The two submissions, the second of them one byte further, and the page for their pool, each this many bytes into a buffer. The bytes
+   before the page and behind it stay. */
+static void try_join_offset(size_t offset)
+{
+    enum { LENGTH = sizeof POOL };
+    uint8_t first[sizeof M2 + 8], second[sizeof M1 + 9], page[LENGTH + 9] = {0}, expected[LENGTH + 9] = {0};
+    memcpy(first + offset, M2, sizeof M2);
+    memcpy(second + offset + 1, M1, sizeof M1);
+    expect("join, a byte short", REFUSED(11, LENGTH),
+           checker_join(first + offset, sizeof M2, second + offset + 1, sizeof M1, page + offset, LENGTH - 1));
+    expect("the page of a refusal", 0, memcmp(page, expected, sizeof page) != 0);
+    memcpy(expected + offset, POOL, LENGTH);
+    for (size_t more = 0; more < 2; more++) {
+        expect("join", LENGTH, checker_join(first + offset, sizeof M2, second + offset + 1, sizeof M1, page + offset, LENGTH + more));
+        expect("the pool", 0, memcmp(page, expected, sizeof page) != 0);
+    }
+}
+
+/* One buffer for both: only the page is written. */
+static void try_join_with_itself(void)
+{
+    uint8_t page[sizeof M1];
+    expect("join with itself", sizeof M1, checker_join(M1, sizeof M1, M1, sizeof M1, page, sizeof page));
+    expect("the pool of one", 0, memcmp(page, M1, sizeof page) != 0);
+}
+
 /* M1's guess is not deducible. */
 static void try_no_deduction(void)
 {
@@ -168,11 +208,13 @@ int main(void)
     try_null();
     try_null_bodies();
     try_no_deduction();
+    try_join_with_itself();
     for (size_t offset = 0; offset < 8; offset++) {
         try_offset(offset);
         try_inverses_offset(offset);
         try_read_back_offset(offset);
         try_deduction_offset(offset);
+        try_join_offset(offset);
     }
     return failures != 0;
 }

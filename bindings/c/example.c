@@ -157,6 +157,17 @@ static void show_inverses(const uint8_t *sub, size_t length)
     print_page("inverses", answer, page);
 }
 
+/* Joins the submission with itself, as two listeners do who have heard the same: the pool is the submission again. */
+static void show_join(const uint8_t *sub, size_t length)
+{
+    uint8_t page[LONGEST];
+    uint32_t answer = checker_join(sub, length, sub, length, page, sizeof page);
+    printf("join ");
+    if (!is_refusal(answer) && (answer != length || memcmp(page, sub, length) != 0))
+        printf("another ");
+    print_answer(answer);
+}
+
 /* Prints the derivation and the claim that a program is read back to. */
 static void show_read_back(const uint8_t *sub, size_t length, const uint8_t *program, size_t program_length)
 {
@@ -187,6 +198,7 @@ static void show_calls(const uint8_t *sub, size_t length)
     show_deducible(sub, length);
     show_deductions(sub, length);
     show_inverses(sub, length);
+    show_join(sub, length);
     if (is_refusal(steps))
         return;
     size_t program_length = 3 * (size_t)steps + 4;

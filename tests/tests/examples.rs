@@ -8,7 +8,8 @@ use checker_tests::examples::{file, names, programs, submission, text, Program};
 use checker_tests::generate::{premises, Table, UNLISTED};
 use checker_tests::notation::{assemble, show, show_program, term_number};
 use checker_tests::reference::{
-    contents, derivation_and_claim, is_wrong_guess, program, verdict, write, Deductions, Refusal,
+    contents, derivation_and_claim, is_wrong_guess, program, verdict, write, Deductions, Joint,
+    Refusal,
 };
 use checker_tests::tables::{Body, Kind, Rule, LONGEST_SUBMISSION};
 
@@ -101,16 +102,20 @@ fn each_is_in_the_documentation_with_its_verdict() {
     }
 }
 
-/// The rows of deductions in the documentation: the example, the term, what it is, and the steps, each as a
-/// line of a derivation.
-fn documented_deductions() -> Vec<[String; 4]> {
+/// The rows of a section's table in the documentation, without its head.
+fn documented_rows(section: &str) -> Vec<Vec<String>> {
     let (_, section) = include_str!("../../docs/EXAMPLES.md")
-        .split_once("\n## Deductions\n")
+        .split_once(&format!("\n## {section}\n"))
         .expect("it is there");
     let (section, _) = section.split_once("\n## ").expect("another comes after it");
     let rows = section.lines().filter_map(|line| line.strip_prefix("| ")?.strip_suffix(" |"));
-    let cells = rows.map(|row| row.split(" | ").map(String::from).collect::<Vec<_>>());
-    let rows = cells.filter(|cells| cells[0] != "name");
+    rows.skip(1).map(|row| row.split(" | ").map(String::from).collect()).collect()
+}
+
+/// The rows of deductions in the documentation: the example, the term, what it is, and the steps, each as a
+/// line of a derivation.
+fn documented_deductions() -> Vec<[String; 4]> {
+    let rows = documented_rows("Deductions").into_iter();
     rows.map(|cells| {
         let steps = cells[3].split('`').skip(1).step_by(2);
         let lines: String =
@@ -165,6 +170,51 @@ fn explained(name: &str) -> Vec<(String, u8, String)> {
         }
     }
     terms.into_iter().map(|(term, what)| (name.to_string(), term, what)).collect()
+}
+
+/// What becomes of the verdict on the first of two, with the letter of its way.
+type Change = (String, bool, bool);
+
+/// Each pool in the documentation has its counts, and the two verdicts; where the checker is linked, it joins
+/// the two to the same. Both verdicts may be had in each way that allows it.
+#[test]
+fn each_pool_in_the_documentation_holds() {
+    let mut changes: BTreeSet<Change> = BTreeSet::new();
+    for row in documented_rows("Pools") {
+        let [first, second, way, terms, entries, alone, joined, _] = &row[..] else {
+            panic!("{row:?}");
+        };
+        let [first, second] = [first, second].map(|name| submission(name));
+        let joint = Joint::of(&first, &second).expect("both pass checks 1 to 5");
+        let pool = joint.submission().expect("the pool is within the limits");
+        let bodies = Bodies::read(&pool).expect("it has its bodies");
+        let found = [
+            char::from(bodies.claim[2]).to_string(),
+            bodies.terms.len().to_string(),
+            bodies.knowledge.len().to_string(),
+            first_line(&first),
+            first_line(&pool),
+        ];
+        assert_eq!([way, terms, entries, alone, joined].map(String::clone), found, "{row:?}");
+        #[cfg(feature = "linked")]
+        assert_eq!(checker::join(&first, &second, &mut [0; LONGEST_SUBMISSION]), Ok(&pool[..]));
+        let [is_accepted, stays] = [alone, joined].map(|verdict| verdict.starts_with("accepted"));
+        changes.insert((way.clone(), is_accepted, stays));
+    }
+    let [kab, other] = ["003-needham-schroeder-kab", "003-yahalom-paulson-kab"].map(submission);
+    let taken_for_one = Joint::of(&kab, &other).and_then(|joint| joint.submission());
+    assert!(first_line(&taken_for_one.expect("a pool")).starts_with("refused 8 "));
+    for way in ["a", "b", "c", "j", "k"] {
+        assert!(changes.contains(&(way.to_string(), true, true)), "{way} stays accepted");
+    }
+    for way in ["a", "b", "c"] {
+        assert!(changes.contains(&(way.to_string(), true, false)), "{way} is refused with 8");
+    }
+    assert!(changes.contains(&("b".to_string(), false, true)), "it becomes accepted");
+}
+
+fn first_line(submission: &[u8]) -> String {
+    verdict(submission).lines().next().map(String::from).expect("a line")
 }
 
 /// The public constants of documents 000 to 003, as the texts write them.

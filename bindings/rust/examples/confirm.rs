@@ -13,7 +13,8 @@ use std::fs;
 use std::io::{self, Write};
 use std::process::ExitCode;
 
-use checker::{check, deducible, deduction, inverses, read_back, run, write, ReadBack, Refusal};
+use checker::{check, deducible, deduction, inverses, join, read_back, run, write};
+use checker::{ReadBack, Refusal};
 use checker::{LONGEST_PROGRAM, LONGEST_READ_BACK, LONGEST_SUBMISSION, MOST_TERMS, SHORTEST_SHEET};
 
 fn main() -> ExitCode {
@@ -65,6 +66,7 @@ fn show_calls(submission: &[u8], out: &mut impl Write) -> io::Result<()> {
     show_deducible(submission, out)?;
     show_deductions(submission, out)?;
     show_inverses(submission, out)?;
+    show_join(submission, out)?;
     match checked {
         Ok(program) => {
             show_signals(submission, program, out)?;
@@ -104,6 +106,16 @@ fn show_inverses(submission: &[u8], out: &mut impl Write) -> io::Result<()> {
     match inverses(submission, &mut [0; MOST_TERMS]) {
         Ok(numbers) => writeln!(out, "inverses {}", spaced(numbers)),
         Err(refusal) => writeln!(out, "inverses {refusal}"),
+    }
+}
+
+/// Joins the submission with itself, as two listeners do who have heard the same: the pool is the
+/// submission again.
+fn show_join(submission: &[u8], out: &mut impl Write) -> io::Result<()> {
+    match join(submission, submission, &mut [0; LONGEST_SUBMISSION]) {
+        Ok(pool) if pool == submission => writeln!(out, "join {}", pool.len()),
+        Ok(pool) => writeln!(out, "join another {}", pool.len()),
+        Err(refusal) => writeln!(out, "join {refusal}"),
     }
 }
 

@@ -1,4 +1,4 @@
-//! The checker's seven calls, safe to call from Rust.
+//! The checker's eight calls, safe to call from Rust.
 //!
 //! Every call takes any bytes and ends. What an answer means is proved of the calls themselves; of
 //! this wrapper nothing is proved, and it only turns the one number that a call answers into a
@@ -25,8 +25,8 @@ pub const NO_INVERSE: u8 = 255;
 /// A page of this length is never too short for [`check`].
 pub const LONGEST_PROGRAM: usize = program_length(MOST_STEPS);
 
-/// A page of this length is never too short for [`write`]: the contents, the most terms, 64 entries
-/// of knowledge, the most steps and the claim.
+/// A page of this length is never too short for [`write`], nor for [`join`]: the contents, the most
+/// terms, 64 entries of knowledge, the most steps and the claim.
 pub const LONGEST_SUBMISSION: usize = 16 + 3 * MOST_TERMS + 64 + STEP * MOST_STEPS + CLAIM;
 
 /// A page of this length is never too short for [`read_back`]: the most steps and the claim.
@@ -155,6 +155,27 @@ pub fn deduction<'page>(
 ) -> Result<Option<&'page [u8]>, Refusal> {
     let answer = usize::from(decoded(raw::deduction(submission, term, page))?);
     Ok(answer.checked_sub(1).map(|steps| &page[..STEP * steps]))
+}
+
+/// Joins two submissions, such as two listeners have of one protocol, and writes their pool to the page
+/// as a submission: the first's terms, then those of the second that the first lacks, in their order and
+/// renumbered; the first's knowledge, then the second's entries that are not there yet; the first's
+/// derivation and claim.
+///
+/// An acceptance gives the pool, for [`check`] and the others; it is the first bytes of the page, and the
+/// other bytes are as before. Each term of the first keeps its number, and what is deducible from either is
+/// deducible from the pool. What becomes of an acceptance of the first is said in `include/checker.h`. A
+/// refusal is 1 to 5 for the first submission, then 1 to 5 for the second, which the refusal doesn't tell
+/// apart, then 20 where the pool would have more terms or entries than a submission may, then 11, with the
+/// pool's length as place, and leaves the whole page as it was. A page of [`LONGEST_SUBMISSION`] bytes is
+/// never too short.
+pub fn join<'page>(
+    first: &[u8],
+    second: &[u8],
+    page: &'page mut [u8],
+) -> Result<&'page [u8], Refusal> {
+    let length = decoded(raw::join(first, second, page))?;
+    Ok(&page[..usize::from(length)])
 }
 
 /// The value of an answer, or its refusal.

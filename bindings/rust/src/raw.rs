@@ -43,6 +43,14 @@ extern "C" {
         page: *mut u8,
         page_len: usize,
     ) -> u32;
+    fn checker_join(
+        first: *const u8,
+        first_len: usize,
+        second: *const u8,
+        second_len: usize,
+        page: *mut u8,
+        page_len: usize,
+    ) -> u32;
 }
 
 /// Checks a submission: the count N of its steps, or a refusal, 1 to 11 or 16.
@@ -130,6 +138,23 @@ pub fn deduction(submission: &[u8], term: u8, page: &mut [u8]) -> u32 {
             submission.as_ptr(),
             submission.len(),
             term,
+            page.as_mut_ptr(),
+            page.len(),
+        )
+    }
+}
+
+/// Joins two submissions and writes their pool to the page: the count of bytes written, or a refusal, 1 to
+/// 5, 20 or 11.
+pub fn join(first: &[u8], second: &[u8], page: &mut [u8]) -> u32 {
+    // SAFETY: each buffer is passed with its own length, and only the page, which nothing else
+    // refers to, is written.
+    unsafe {
+        checker_join(
+            first.as_ptr(),
+            first.len(),
+            second.as_ptr(),
+            second.len(),
             page.as_mut_ptr(),
             page.len(),
         )

@@ -14,7 +14,9 @@ use checker::raw;
 use checker_tests::bodies::{self, Bodies};
 use checker_tests::examples;
 use checker_tests::generate::shapes::{self, Naming, Nesting, Order, Secrets};
-use checker_tests::generate::{astray, farthest, padded, repeated, shortest, Form, UNLISTED};
+use checker_tests::generate::{
+    astray, farthest, joinable, padded, repeated, shortest, turned, Form, UNLISTED,
+};
 use checker_tests::reference::{self, code, Guesses};
 use checker_tests::tables::{
     Body, Kind, Rule, Test, Way, LONGEST_PROGRAM, LONGEST_READ_BACK, LONGEST_SUBMISSION,
@@ -38,6 +40,9 @@ const KEYS: [Kind; 2] = [Kind::Public, Kind::Private];
 
 /// An example of about twenty terms.
 const TYPICAL: &str = "003-needham-schroeder-kas";
+
+/// An atom that no shape lists.
+const UNLISTED_ATOM: [u8; 3] = [Kind::Plain.number(), u8::MAX, u8::MAX];
 
 fn main() {
     let verdict = env::args_os().nth(1).expect("usage: measure VERDICT");
@@ -79,6 +84,9 @@ fn main() {
             measure_deduction(&format!("{title}, no"), &submission, last);
         }
     }
+    for (title, first, second) in pairs() {
+        measure_join(&title, &first, &second);
+    }
     for name in ["M1", TYPICAL] {
         measure_program(name, &verdict);
     }
@@ -102,6 +110,10 @@ fn submissions() -> Vec<(String, Vec<u8>)> {
         (
             "250 atoms with one low byte".to_string(),
             shapes::atoms(&[Kind::Plain], Naming::OneLowByte).submission(),
+        ),
+        (
+            "250 atoms with the longest lookup".to_string(),
+            shapes::atoms(&[Kind::Plain], Naming::LongestLookup).submission(),
         ),
         (
             "247 keys with one low byte, no pair".to_string(),
@@ -193,6 +205,7 @@ fn key_tables() -> Vec<(&'static str, Vec<u8>)> {
         ("125 pairs of keys", atoms(&KEYS, Naming::BothBytes)),
         ("125 pairs of keys with one low byte", atoms(&KEYS, Naming::OneLowByte)),
         ("250 public keys with one low byte", atoms(&[Kind::Public], Naming::OneLowByte)),
+        ("250 public keys with the longest lookup", atoms(&[Kind::Public], Naming::LongestLookup)),
         (
             "247 keys with one low byte, no pair",
             shapes::keys_beside(&KEYS, Naming::OneLowByte).submission(),
@@ -226,6 +239,60 @@ fn sent_programs() -> Vec<(String, Vec<u8>, Vec<u8>)> {
         sent.push((format!("{title}, but for the last"), bodies.submission(), strayed));
     }
     sent
+}
+
+/// Submissions to join. In those with one low byte the names of atoms differ in the high byte only, and the
+/// records of hashes in the number of the part.
+fn pairs() -> Vec<(String, Vec<u8>, Vec<u8>)> {
+    let most = Body::Terms.most();
+    let examples = [
+        ("M1 with itself", "M1", "M1"),
+        ("typical (Needham-Schroeder), the same run", TYPICAL, "003-needham-schroeder-kab"),
+        ("two runs (Denning Sacco)", "003-denning-sacco-kas", "003-denning-sacco-kac-shown"),
+    ];
+    let submissions = |(title, first, second): (&str, &str, &str)| {
+        (title.to_string(), examples::submission(first), examples::submission(second))
+    };
+    let mut pairs = examples.map(submissions).to_vec();
+    let mut add = |title: String, first: &Bodies, second: &Bodies| {
+        pairs.push((title, first.submission(), second.submission()));
+    };
+    for (word, naming) in [
+        ("atoms", Naming::BothBytes),
+        ("atoms with one low byte", Naming::OneLowByte),
+        ("atoms with the longest lookup", Naming::LongestLookup),
+    ] {
+        let atoms = joinable(&shapes::atoms(&[Kind::Plain], naming));
+        let [front, back] = [&atoms.terms[..most / 2], &atoms.terms[most / 2..]]
+            .map(|terms| Bodies { terms: terms.to_vec(), ..atoms.clone() });
+        let hashed = joinable(&shapes::hashed(naming));
+        let more =
+            Bodies { terms: [&atoms.terms[1..], &[UNLISTED_ATOM]].concat(), ..atoms.clone() };
+        add(format!("125 {word} with 125 others"), &front, &back);
+        add(format!("250 {word} with the same from the last on"), &atoms, &turned(&atoms));
+        add(format!("125 {word} and their hashes, the same"), &hashed, &turned(&hashed));
+        add(format!("250 {word}, the last is one too many"), &atoms, &more);
+    }
+    for (word, nesting) in
+        [("hashes, one of", Nesting::Hashes), ("pairs, each in", Nesting::LeftPairs)]
+    {
+        let tower = joinable(&shapes::tower(nesting, most));
+        add(format!("249 {word} the other, with the same"), &tower, &tower);
+    }
+    let [first, second] = full_of_entries();
+    add("250 terms, the last entry is one too many".to_string(), &first, &second);
+    pairs
+}
+
+/// Two of the most terms, all in both, and the most entries, of which the second's last is not the first's.
+fn full_of_entries() -> [Bodies; 2] {
+    let (most, entries) = (Body::Terms.most() as u8, Body::Knowledge.most() as u8);
+    let mut first = joinable(&shapes::atoms(&[Kind::Plain], Naming::OneLowByte));
+    first.knowledge = (most - entries..most).collect();
+    let mut second = first.clone();
+    second.knowledge.reverse();
+    second.knowledge[usize::from(entries) - 1] = 0;
+    [first, second]
 }
 
 /// A chain of hashes of the guess up to the limit on terms, of which so many are steps.
@@ -337,6 +404,14 @@ fn measure_inverses(title: &str, submission: &[u8]) {
     let checker = answered(|| raw::inverses(black_box(submission), &mut page));
     let reference = nanoseconds(|| code(reference::inverses(black_box(submission), &mut page)));
     print_row("inverses", title, submission.len(), checker, reference);
+}
+
+fn measure_join(title: &str, first: &[u8], second: &[u8]) {
+    let mut page = [0; LONGEST_SUBMISSION];
+    let checker = answered(|| raw::join(black_box(first), black_box(second), &mut page));
+    let reference =
+        nanoseconds(|| code(reference::join(black_box(first), black_box(second), &mut page)));
+    print_row("join", title, first.len() + second.len(), checker, reference);
 }
 
 fn measure_read_back(title: &str, submission: &[u8], program: &[u8]) {

@@ -81,6 +81,10 @@ fn needs(stack: &mut Stack, input: &Input) -> [usize; Call::ALL.len()] {
             let mut page = sheet.page.clone();
             stack.used_by(|| raw::deduction(&input.submission, sheet.term, &mut page))
         }),
+        Call::Join => most(&input.pairs, |pair| {
+            let mut page = pair.page.clone();
+            stack.used_by(|| raw::join(&pair.first, &pair.second, &mut page))
+        }),
     })
 }
 

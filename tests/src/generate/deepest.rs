@@ -4,7 +4,9 @@
 use super::names::Names;
 use super::program::{repeated, shortest};
 use super::shapes::{self, Naming, Nesting, Order, Secrets};
-use super::{astray, claimed_term, farthest, Form, Input, Sent, Sheet, UNLISTED};
+use super::{
+    astray, claimed_term, farthest, joinable, turned, Form, Input, Pair, Sent, Sheet, UNLISTED,
+};
 use crate::bodies::Bodies;
 use crate::reference;
 use crate::tables::{
@@ -101,8 +103,27 @@ fn input(bodies: &Bodies) -> Input {
         forms: vec![Form::new(bodies.bytes(), LONGEST_SUBMISSION)],
         inverse_pages: vec![vec![0xA5; Body::Terms.most()]],
         sent: sent(bodies, &submission),
+        pairs: pairs(bodies),
         submission,
     }
+}
+
+/// The terms and the knowledge with a claim that passes check 5: joined with themselves, in the same order
+/// and from the last on; and, but for the last terms, with others that come before them or after.
+fn pairs(bodies: &Bodies) -> Vec<Pair> {
+    let whole = joinable(bodies);
+    let others = [1, 2, 3].map(|low| [Kind::Plain.number(), u8::MAX, low]);
+    let others = joinable(&Bodies { terms: others.to_vec(), ..Bodies::default() });
+    let terms = whole.terms.len().min(Body::Terms.most() - others.terms.len());
+    let mut cut = whole.clone();
+    cut.terms.truncate(terms);
+    cut.knowledge.retain(|&entry| usize::from(entry) < terms);
+    let turned = turned(&whole);
+    let [whole, cut, others, turned] =
+        [whole, cut, others, turned].map(|bodies| bodies.submission());
+    let pairs = [[&whole, &whole], [&whole, &turned], [&others, &cut], [&cut, &others]];
+    let with_room = pairs.map(|[first, second]| Pair::with_room(first, second));
+    with_room.map(|pair| Pair { is_asked: false, ..pair }).into()
 }
 
 /// The submission's own program, where it is accepted, as it is and with another last instruction; and

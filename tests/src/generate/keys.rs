@@ -67,7 +67,7 @@ fn name(random: &mut Random, names: &Names, table: &Table) -> u16 {
 }
 
 /// Lists a compound of listed terms, where there is a key for it.
-fn compound(random: &mut Random, table: &mut Table) {
+pub fn compound(random: &mut Random, table: &mut Table) {
     let (kind, rule) = random.pick(&Kind::compounds());
     let terms: Vec<u8> = table.numbers().collect();
     let seconds = if kind.keys().is_empty() { terms.clone() } else { table.of_kinds(kind.keys()) };

@@ -7,9 +7,11 @@ mod form;
 mod keys;
 mod limits;
 mod names;
+mod pair;
 mod program;
 mod protocol;
 mod random;
+mod relative;
 mod sent;
 pub mod shapes;
 mod sheet;
@@ -28,7 +30,9 @@ use shapes::{Nesting, Order, Secrets};
 pub use deepest::deepest;
 pub use form::Form;
 pub use limits::padded;
+pub use pair::Pair;
 pub use program::{repeated, shortest};
+pub use relative::{joinable, turned};
 pub use sent::{astray, Sent};
 pub use sheet::{farthest, Sheet};
 pub use steps::{around, premises};
@@ -56,6 +60,8 @@ pub struct Input {
     pub sent: Vec<Sent>,
     /// Terms whose deduction is asked for, and the pages for that.
     pub sheets: Vec<Sheet>,
+    /// Submissions to join: most often this one and another.
+    pub pairs: Vec<Pair>,
 }
 
 /// A name that no example and no deepest input lists, and so that of a wrong guess.
@@ -66,8 +72,10 @@ const KEPT: usize = 64;
 
 pub struct Source {
     random: Random,
-    /// For the sheets alone, so that all else of a seed is the same with and without them.
+    /// For the sheets alone, and for the pairs, so that all else of a seed is the same with and without
+    /// them.
     sheets: Random,
+    pairs: Random,
     kept: Vec<Bodies>,
 }
 
@@ -75,7 +83,8 @@ impl Source {
     pub fn new(seed: u64) -> Source {
         let mut random = Random::new(seed);
         let kept = (0..KEPT).map(|_| fresh(&mut random)).collect();
-        Source { random, sheets: Random::new(!seed), kept }
+        let pairs = Random::new(Random::new(seed).number());
+        Source { random, sheets: Random::new(!seed), pairs, kept }
     }
 
     pub fn next_input(&mut self) -> Input {
@@ -97,18 +106,26 @@ impl Source {
             inverse_pages: self.inverse_pages(&submission),
             sent: sent::sent(&mut self.random, &submission, own.as_deref()),
             sheets: sheet::sheets(&mut self.sheets, &submission),
+            pairs: pair::pairs(&mut self.pairs, &submission, &self.kept),
             submission,
         }
     }
 
-    /// What to try with a published example: the page is long enough, a wrong guess is run, and the
-    /// programs that are published with it are read back.
-    pub fn example(&mut self, submission: Vec<u8>, programs: Vec<Vec<u8>>) -> Input {
+    /// What to try with a published example: the page is long enough, a wrong guess is run, the programs
+    /// that are published with it are read back, and it is joined with each of the others.
+    pub fn example(
+        &mut self,
+        submission: Vec<u8>,
+        programs: Vec<Vec<u8>>,
+        others: &[Vec<u8>],
+    ) -> Input {
         let mut input = self.input(submission);
         input.page = self.random.bytes(LONGEST_PROGRAM);
         input.names.push(UNLISTED);
         let sent = programs.into_iter().map(|program| Sent::with_room(&mut self.random, program));
         input.sent.extend(sent);
+        let pairs = others.iter().map(|other| Pair::with_room(&input.submission, other));
+        input.pairs.extend(pairs);
         input
     }
 

@@ -113,11 +113,13 @@ pub fn largest_deducible(way: Way, is_entry: bool) -> Bodies {
     bodies
 }
 
-/// How atoms are named: so that both bytes of their names differ, or the high byte only.
+/// How atoms are named: so that both bytes of their names differ, or the high byte only; or so that the
+/// checker, where it looks for an equal record, looks at as many others as it can, which was found by trying.
 #[derive(Clone, Copy)]
 pub enum Naming {
     BothBytes,
     OneLowByte,
+    LongestLookup,
 }
 
 impl Naming {
@@ -127,6 +129,7 @@ impl Naming {
         match self {
             Naming::BothBytes => u16::from_be_bytes([index.wrapping_mul(37), index]),
             Naming::OneLowByte => u16::from_be_bytes([index, 5]),
+            Naming::LongestLookup => u16::from_be_bytes([index.wrapping_mul(195), index]),
         }
     }
 }
@@ -139,6 +142,18 @@ pub fn atoms(kinds: &[Kind], naming: Naming) -> Bodies {
         for index in 0..Body::Terms.most() / kinds.len() {
             table.atom(kind, naming.name(index));
         }
+    }
+    Bodies { terms: table.records, ..Bodies::default() }
+}
+
+/// Atoms up to half of the limit on terms, then a hash of each. No step, so check 5 refuses it.
+pub fn hashed(naming: Naming) -> Bodies {
+    let mut table = Table::default();
+    let half = Body::Terms.most() / 2;
+    let atoms: Vec<u8> =
+        (0..half).map(|index| table.atom(Kind::Plain, naming.name(index))).collect();
+    for atom in atoms {
+        table.compound(Kind::Hash, &[atom]);
     }
     Bodies { terms: table.records, ..Bodies::default() }
 }

@@ -111,7 +111,7 @@ impl Table {
         self.numbers().filter(is_one).collect()
     }
 
-    pub fn numbers(&self) -> impl Iterator<Item = u8> {
+    pub fn numbers(&self) -> impl DoubleEndedIterator<Item = u8> {
         (0..self.records.len()).map(|number| number as u8)
     }
 }

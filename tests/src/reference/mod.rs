@@ -10,8 +10,10 @@ mod fault;
 mod form;
 mod guesses;
 mod inverses;
+mod join;
 mod machine;
 mod parts;
+mod pool;
 mod program;
 mod read_back;
 mod refusal;
@@ -33,7 +35,9 @@ use crate::tables::{Kind, Reason};
 pub use deductions::Deductions;
 pub use fault::Fault;
 pub use guesses::Guesses;
+pub use join::Joint;
 pub use parts::Met;
+pub use pool::{numbers_in_pool, PoolFault};
 pub use refusal::{code, Checked, Refusal, REFUSAL};
 pub use submission::records;
 
@@ -131,6 +135,11 @@ pub fn deduction(submission: &[u8], number: u8, page: &mut [u8]) -> Checked<u8> 
     let bytes = steps.as_flattened();
     page[..bytes.len()].copy_from_slice(bytes);
     Ok(u8::try_from(1 + steps.len()).expect("there are at most as many steps as terms"))
+}
+
+/// Joins two submissions and writes their pool on the page. An acceptance carries its length.
+pub fn join(first: &[u8], second: &[u8], page: &mut [u8]) -> Checked<u16> {
+    Joint::of(first, second)?.write(page)
 }
 
 /// What the program `verdict` prints.

@@ -66,8 +66,12 @@ impl Claim {
 
 impl Submission {
     pub fn read(bytes: &[u8]) -> Checked<Submission> {
+        Submission::read_into(Store::default(), bytes)
+    }
+
+    /// The same, with the terms in a store that may have others.
+    pub fn read_into(mut store: Store, bytes: &[u8]) -> Checked<Submission> {
         let [terms, knowledge, derivation, claim] = contents::bodies(bytes)?;
-        let mut store = Store::default();
         let terms = read_terms(&mut store, terms)?;
         let knowledge = read_knowledge(&terms, knowledge)?;
         let derivation = records(derivation).collect();

@@ -33,4 +33,8 @@ table! {
         Reason::Contents, Reason::Count, Reason::Term, Reason::Knowledge, Reason::NoSuchTerm,
         Reason::ShortSheet,
     ] }
+    Join      { word: "join",      refusals: &[
+        Reason::Contents, Reason::Count, Reason::Term, Reason::Knowledge, Reason::Claim, Reason::Overfull,
+        Reason::Page,
+    ] }
 }

@@ -25,4 +25,5 @@ table! {
     OffTheTable { number: 17, word: "off the table" }
     NoClaim     { number: 18, word: "no claim" }
     ShortSheet  { number: 19, word: "short sheet" }
+    Overfull    { number: 20, word: "overfull" }
 }

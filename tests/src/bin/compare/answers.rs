@@ -4,7 +4,7 @@ use std::thread;
 
 use checker::raw::{self, REFUSAL};
 use checker_tests::bodies::divided;
-use checker_tests::generate::{Form, Input, Sent, Sheet};
+use checker_tests::generate::{Form, Input, Pair, Sent, Sheet};
 use checker_tests::reference::{contents, records};
 use checker_tests::tables::{
     program_length, Body, Kind, Way, IN_KNOWLEDGE, LONGEST_PROGRAM, LONGEST_READ_BACK,
@@ -32,6 +32,8 @@ pub struct Answers {
     pub read_backs: Vec<ReadBack>,
     /// One for each of the input's sheets.
     pub deductions: Vec<Deduced>,
+    /// One for each of the input's pairs.
+    pub joins: Vec<Joined>,
 }
 
 /// What the checker answers to a form.
@@ -93,6 +95,26 @@ pub struct Claimed {
     pub is_true: bool,
 }
 
+/// What the checker answers where two submissions are joined.
+pub struct Joined {
+    pub answer: u32,
+    /// The page after the call.
+    pub page: Vec<u8>,
+    /// What it answers on the pool, where there is one.
+    pub pooled: Option<Pooled>,
+}
+
+/// What the checker answers on a pool, and on the two that it is of.
+pub struct Pooled {
+    /// What check answers to the first, and to the pool.
+    pub checks: [u32; 2],
+    /// What is written where the first is joined with itself, and the pool with each of the two.
+    pub again: [Option<Vec<u8>>; 3],
+    /// What deducible answers for each term of the first, of the second and of the pool, where that is
+    /// asked.
+    pub deducible: Option<[Vec<u32>; 3]>,
+}
+
 /// The bytes of a page before a check whose bytes are compared.
 pub const PAINT: u8 = 0xA5;
 
@@ -132,6 +154,7 @@ impl Answers {
             inverses: input.inverse_pages.iter().map(|page| Inverses::of(input, page)).collect(),
             read_backs: input.sent.iter().map(|sent| ReadBack::of(submission, sent)).collect(),
             deductions: input.sheets.iter().map(|sheet| Deduced::of(submission, sheet)).collect(),
+            joins: input.pairs.iter().map(Joined::of).collect(),
         }
     }
 }
@@ -253,6 +276,40 @@ impl Claimed {
         });
         [guess].into_iter().chain(of_inverse).collect()
     }
+}
+
+impl Joined {
+    pub fn of(pair: &Pair) -> Joined {
+        let mut page = pair.page.clone();
+        let answer = raw::join(&pair.first, &pair.second, &mut page);
+        let pooled = written(answer, &page).map(|pool| Pooled::of(pair, pool));
+        Joined { pooled, answer, page }
+    }
+}
+
+impl Pooled {
+    fn of(Pair { first, second, is_asked, .. }: &Pair, pool: &[u8]) -> Pooled {
+        let check = |submission: &[u8]| raw::check(submission, &mut [0; LONGEST_PROGRAM]);
+        Pooled {
+            checks: [check(first), check(pool)],
+            again: [joined(first, first), joined(pool, first), joined(pool, second)],
+            deducible: is_asked.then(|| [first, second, pool].map(deducible_terms)),
+        }
+    }
+}
+
+/// What is written where these are joined.
+fn joined(first: &[u8], second: &[u8]) -> Option<Vec<u8>> {
+    let mut page = [PAINT; LONGEST_SUBMISSION];
+    let answer = raw::join(first, second, &mut page);
+    written(answer, &page).map(<[u8]>::to_vec)
+}
+
+/// What deducible answers for each term.
+fn deducible_terms(submission: &[u8]) -> Vec<u32> {
+    let terms =
+        contents::bodies(submission).map_or(0, |[terms, ..]| terms.len() / Body::Terms.record());
+    (0..terms).map(|term| raw::deducible(submission, term as u8)).collect()
 }
 
 /// The bytes on a page of which the answer is the count.

@@ -8,8 +8,10 @@ mod answers;
 mod deductions;
 mod forms;
 mod inverses;
+mod joins;
 mod keys;
 mod names;
+mod pools;
 mod programs;
 mod read_backs;
 mod rows;
@@ -32,6 +34,7 @@ use checker_tests::tables::Call;
 use deductions::compare_deductions;
 use forms::compare_form;
 use inverses::compare_inverses;
+use joins::compare_joins;
 use read_backs::compare_read_backs;
 use runs::{compare_page_runs, compare_runs};
 use tally::Tally;
@@ -64,12 +67,16 @@ fn compare(seed: u64, count: u64) -> Result<(), String> {
     }
     let mut source = Source::new(seed);
     let programs = examples::programs();
+    let submissions: Vec<_> =
+        examples::names().iter().map(|name| examples::submission(name)).collect();
     let examples: Vec<_> = examples::names()
         .into_iter()
-        .map(|name| {
+        .zip(&submissions)
+        .map(|(name, submission)| {
             let over_it = programs.iter().filter(|program| program.over == name);
             let sent = over_it.map(|program| program.bytes.clone()).collect();
-            (format!("example {name}"), source.example(examples::submission(&name), sent))
+            let input = source.example(submission.clone(), sent, &submissions);
+            (format!("example {name}"), input)
         })
         .collect();
     each_is_told_apart(&examples)?;
@@ -132,7 +139,8 @@ fn compare_input(input: &Input, found: &Answers, tally: &mut Tally) -> Result<()
     }
     compare_inverses(input, &found.inverses, tally)?;
     compare_read_backs(input, &found.read_backs, tally)?;
-    compare_deductions(input, &found.deductions, tally)
+    compare_deductions(input, &found.deductions, tally)?;
+    compare_joins(input, &found.joins, tally)
 }
 
 /// The verdict and the whole page; and where the submission is accepted, what the page signals, and

@@ -8,6 +8,7 @@ use checker_tests::tables::{Body, Call, Kind, Reason, Way};
 
 use crate::keys::Keys;
 use crate::names::Names;
+use crate::pools::Pools;
 use crate::programs::Programs;
 use crate::rows::Rows;
 use crate::shown::Deductions;
@@ -36,6 +37,7 @@ pub struct Tally {
     pub keys: Keys,
     pub programs: Programs,
     pub deductions: Deductions,
+    pub pools: Pools,
     /// Submissions written again from their own bodies.
     pub rewritten: u64,
 }
@@ -98,6 +100,8 @@ impl Tally {
         println!();
         self.deductions.print();
         println!();
+        self.pools.print();
+        println!();
         println!("submissions written again from their bodies: {}", self.rewritten);
     }
 
@@ -109,7 +113,8 @@ impl Tally {
 
     /// Fails where one of a call's refusals, a count at one of the places, an acceptance, a kind of
     /// guess in a way that may have it, a row of claims, of the tables of kinds and rules, of names, of
-    /// inverses, of programs or of deductions was never reached, or where no submission was written again.
+    /// inverses, of programs, of deductions or of pools was never reached, or where no submission was
+    /// written again.
     pub fn complete(&self) -> Result<(), String> {
         let mut missing: Vec<String> = Call::ALL
             .into_iter()
@@ -126,6 +131,7 @@ impl Tally {
         missing.extend(self.keys.missing());
         missing.extend(self.programs.missing());
         missing.extend(self.deductions.missing());
+        missing.extend(self.pools.missing());
         if self.rewritten == 0 {
             missing.push("a submission written again".to_string());
         }
