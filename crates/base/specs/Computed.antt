@@ -1,5 +1,5 @@
 -- Checks and their order, computed: that a call's checks answer as the rows of the table of verdicts say is a theorem for each call
--- (`check_exact`, `deducible_exact`, `deduction_exact`, `run_exact`, `write_exact`, `inverses_exact`, `read_back_exact`).
+-- (`check_exact`, `deducible_exact`, `deduction_exact`, `run_exact`, `write_exact`, `join_exact`, `inverses_exact`, `read_back_exact`).
 use Rattle.base.specs.{Words.Bool, Words.true, Words.false, Words.Option, Words.none, Words.some, Words.ℕ, Words.ltb, Words.first, Answer.Answer, Answer.refused}
 
 -- whether p holds at some number below n
