@@ -25,6 +25,12 @@ pub record IsPool (a b p : List ℕ) : Type 0 where
 -- A8's promises about every two submissions
 pub record JoinPromise : Type 0 where
   pub pooled : (a b : List ℕ) → Bytes a → Bytes b → (room n : ℕ) → join_answer a b room ≡ done n → IsPool a b (joined a b)
-  -- joining with itself gives the first's bytes, and is not refused, with page enough
+  -- a second that has no term and no message that the first lacks adds nothing: the pool is the first
+  pub nothing_added : (a b : List ℕ) → Bytes a → Bytes b → Clear (rows1to5 a) → Clear (rows1to5 b) → ((t : Term) → Lists b t → Lists a t) →
+      ((t : Term) → InKnowledge b t → InKnowledge a t) → joined a b ≡ a
+  -- so a pool that is joined with either of the two once more stays as it is,
+  pub again : (a b : List ℕ) → Bytes a → Bytes b → (room n : ℕ) → join_answer a b room ≡ done n →
+      (joined (joined a b) a ≡ joined a b) × (joined (joined a b) b ≡ joined a b)
+  -- and joining with itself gives the first's bytes, and is not refused, with page enough
   pub itself : (a : List ℕ) → Bytes a → Clear (rows1to5 a) → joined a a ≡ a
   pub itself_done : (a : List ℕ) → Bytes a → Clear (rows1to5 a) → (room : ℕ) → length a ≤ room → join_answer a a room ≡ done (length a)

@@ -1,4 +1,4 @@
--- A8's promises: every pool is one, and joining with itself gives the first's bytes.
+-- A8's promises: every pool is one, and what has nothing that the first lacks adds nothing.
 use mathlib.Core.Path.{◌≡◌, refl, sym, ap, ◌∙◌}
 use mathlib.Core.Logic.{inl, inr, ⊎_elim}
 use mathlib.Core.Bool.{not}
@@ -8,53 +8,82 @@ use native.Mathlib.Omega.{arith}
 use lib.ListN.{length}
 use Rattle.base.specs.{Words.Bytes, Answer.done, Answer.Clear}
 use Rattle.base.proofs.{Says.denies, RefusalLaws.passes_iff}
-use Rattle.submission.specs.{Record.terms, Record.entries, Record.entry_at, Body.bodies_of, Body.body_at, Body.submission_of, Check.rows1to5, Code.SubmissionRead}
+use Rattle.term.specs.Term.{Term}
+use Rattle.submission.specs.{Record.terms, Record.entries, Record.entry_at, Record.term, Record.InKnowledge, Body.bodies_of, Body.body_at, Body.submission_of, Check.rows1to5, Code.SubmissionRead}
 use Rattle.submission.proofs.Theory.{ListedTerms.Listed, ReadingRows.tells_1_to_5, ReadingRows.first_two}
 use Rattle.form.proofs.Theory.RoundTrip.{form_promise}
 use Rattle.submission.proofs.Theory.{ListedTerms.claim_facts, ReadingRows.rows_clear}
-use Rattle.pool.specs.{Pool.is_missing, Pool.missing, Pool.pool_number, Pool.is_entry, Pool.new_entries, Pool.pool, Pool.joined, Pool.Overfull, Computed.overfull, Promise.JoinPromise}
+use Rattle.pool.specs.{Pool.is_missing, Pool.missing, Pool.pool_number, Pool.is_entry, Pool.new_entries, Pool.pool, Pool.joined, Pool.Overfull, Computed.overfull, Promise.Lists, Promise.JoinPromise}
 use Rattle.pool.proofs.Theory.{JoinAnswer.Joinable, JoinAnswer.says_overfull, JoinAnswer.join_done, JoinAnswer.done_joinable, PoolLists.kept_none, PoolNumbers.InFirst}
 use Rattle.pool.proofs.Theory.{PoolNumbers.Missing, PoolNumbers.in_or_missing, PoolNumbers.number_same}
-use Rattle.pool.proofs.Theory.{PoolBodies.pool_term_count, PoolBodies.pool_entry_count, PoolKnowledge.says_entry, PoolPassed.is_pool}
+use Rattle.pool.proofs.Theory.{PoolBodies.pool_term_count, PoolBodies.pool_entry_count, PoolKnowledge.says_entry, PoolPassed.is_pool, PoolBytes.pool_bytes}
 
--- ---- joining with itself
-module _ {a : List ℕ} (r : SubmissionRead a) where
-  z : Listed a
-  z = (claim_facts r).read
-
-  nothing_missing : missing a a (terms a) ≡ []
-  unfolding missing
-  nothing_missing =
-      kept_none (is_missing a a) (λ j. j) (terms a) (λ j l.
-      ⊎_elim (λ (f : InFirst a a j). f.present) (λ (m : Missing a a j). absurd (m.lacks j l refl)) (in_or_missing a a j))
-
-  nothing_new : new_entries a a (entries a) ≡ []
-  unfolding new_entries
-  nothing_new =
-      kept_none (λ k. not (is_entry a k)) (λ r. pool_number a a (entry_at a r)) (entries a) (λ r l.
-      ap not ((says_entry a _).1 (r, l, sym (number_same z a (entry_at a r) (entry_at a r) (z.entry_below r l) refl))))
-
-  pub itself : joined a a ≡ a
-  unfolding pool
-  itself = ap submission_of same ∙ form_promise.written_again a r.bytes (first_two a (rows_clear r))
-    where
-      same : pool a a ≡ bodies_of a
-      same = rw (nothing_missing, nothing_new, append-nil (body_at a 0), append-nil (body_at a 1))
-
-  pub itself_joinable : Joinable a a
-  itself_joinable = record { first = r; second = r; within = (denies (overfull a a) (says_overfull a a)).1 within }
-    where
-      within : Overfull a a → ⊥
-      within (inl l) = omega (arith, pool_term_count a r, ap length nothing_missing, z.terms_most)
-      within (inr l) = omega (arith, pool_entry_count a r, ap length nothing_new, z.entries_most)
-
--- ---- the promises
 read : {a : List ℕ} → Bytes a → Clear (rows1to5 a) → SubmissionRead a
 read {a} x c = record { bytes = x; passed = (passes_iff (tells_1_to_5 a x)).1 c }
 
+-- ---- a second that has nothing that the first lacks
+module _ {a b : List ℕ} (r : SubmissionRead a) (q : SubmissionRead b) (lists : (t : Term) → Lists b t → Lists a t) (knows : (t : Term) → InKnowledge b t → InKnowledge a t) where
+  first : Listed a
+  first = (claim_facts r).read
+
+  second : Listed b
+  second = (claim_facts q).read
+
+  nothing_missing : missing a b (terms b) ≡ []
+  unfolding missing
+  nothing_missing =
+      kept_none (is_missing a b) (λ j. j) (terms b) (λ j l.
+      ⊎_elim (λ (f : InFirst a b j). f.present) (λ (m : Missing a b j). let (n, k, e) = lists (term b j) (j, l, refl) in absurd (m.lacks n k e)) (in_or_missing a b j))
+
+  nothing_new : new_entries a b (entries b) ≡ []
+  unfolding new_entries
+  nothing_new =
+      kept_none (λ k. not (is_entry a k)) (λ r. pool_number a b (entry_at b r)) (entries b) (λ r l.
+      let (k, m, e) = knows (term b (entry_at b r)) (r, l, refl) in
+      ap not ((says_entry a _).1 (k, m, sym (number_same first b (entry_at b r) (entry_at a k) (first.entry_below k m) e))))
+
+  pub nothing_added : joined a b ≡ a
+  unfolding pool
+  nothing_added = ap submission_of same ∙ form_promise.written_again a r.bytes (first_two a (rows_clear r))
+    where
+      same : pool a b ≡ bodies_of a
+      same = rw (nothing_missing, nothing_new, append-nil (body_at a 0), append-nil (body_at a 1))
+
+  pub added_joinable : Joinable a b
+  added_joinable = record { first = r; second = q; within = (denies (overfull a b) (says_overfull a b)).1 within }
+    where
+      within : Overfull a b → ⊥
+      within (inl l) = omega (arith, pool_term_count b r, ap length nothing_missing, first.terms_most)
+      within (inr l) = omega (arith, pool_entry_count b r, ap length nothing_new, first.entries_most)
+
+-- joining with itself
+module _ {a : List ℕ} (r : SubmissionRead a) where
+  itself : joined a a ≡ a
+  itself = nothing_added r r (λ t l. l) (λ t k. k)
+
+  itself_joinable : Joinable a a
+  itself_joinable = added_joinable r r (λ t l. l) (λ t k. k)
+
+-- a pool, joined with either again
+module _ {a b : List ℕ} (h : Joinable a b) where
+  abbrev p : List ℕ
+  p = joined a b
+
+  pool_read : SubmissionRead p
+  pool_read = read (pool_bytes h) (is_pool h).passes
+
+  again : (joined p a ≡ p) × (joined p b ≡ p)
+  again = (
+    nothing_added pool_read h.first (λ t l. ((is_pool h).terms_of_both t).1 (inl l)) (λ t k. ((is_pool h).knowledge_of_both t).1 (inl k)),
+    nothing_added pool_read h.second (λ t l. ((is_pool h).terms_of_both t).1 (inr l)) (λ t k. ((is_pool h).knowledge_of_both t).1 (inr k)),
+  )
+
+-- ---- the promises
 pub join_promise : JoinPromise
 join_promise = record {
   pooled = λ a b x y room n e. is_pool (join_done a b room x y n e).0;
+  nothing_added = λ a b x y c d lists knows. nothing_added (read x c) (read y d) lists knows;
+  again = λ a b x y room n e. again (join_done a b room x y n e).0;
   itself = λ a x c. itself (read x c);
   itself_done = λ a x c room l.
       let r = read x c in
