@@ -11,7 +11,7 @@ use lib.ListN.{length, get_or, set, replicate, length-set, length-replicate, get
 use lib.Seq.{get_or-set_same, get_or-set_other}
 use borrow.Author.{Count.below_more, Tests.ne_eqb}
 use Rattle.std.specs.Prelude.{Option as Maybe, Some, None}
-use Rattle.base.specs.Code.{After, link_of, Latest, Chained, Chaining, FoundBy}
+use Rattle.base.specs.Code.{After, link_of, Latest, Chained, Chaining, FoundBy, FoundInBoth}
 use Rattle.base.proofs.Order.{lt_or_ge}
 
 -- ---- one number more
@@ -159,3 +159,23 @@ module _ {before latest : List ℕ} {y : ℕ} {Gave : ℕ → Bool → Type 0} {
 
       pub searched_less : (c : ℕ → ℕ) × (i : ℕ) × Chaining c i before latest → bound_of o' < bound_of o
       searched_less (c, i, h) = rw g (walk_less (p.walk c i h) e h.chained (le_refl i) refl)
+
+both_hit : {c d : ℕ → ℕ} {i y z j : ℕ} {Gave : ℕ → Bool → Type 0} → ((n : ℕ) → Some j ≡ Some n → (n < i) × Gave n true) → FoundInBoth c d i y z Gave (Some j)
+both_hit f = record { is = f; none = λ e. absurd (let z : ◌≡◌ {A = ℕ} 0 1 = cc in omega arith) }
+
+both_end : {c d : ℕ → ℕ} {i y z : ℕ} {Gave : ℕ → Bool → Type 0} → ((k : ℕ) → k < i → c k ≡ y → d k ≡ z → Gave k false) → FoundInBoth c d i y z Gave None
+both_end f = record { is = λ j e. absurd (let z : ◌≡◌ {A = ℕ} 0 1 = cc in omega arith); none = λ _. f }
+
+-- ---- two walks at once: what the one found, and what holds where one of them has come to its end
+module _ {before latest before' latest' : List ℕ} {y z : ℕ} {Gave : ℕ → Bool → Type 0} {o o' : Maybe ℕ} (p : Searched before latest y Gave o) (q : Searched before' latest' z Gave o') where
+  pub here_hit : {j : ℕ} → o ≡ Some j → Gave j true → (c d : ℕ → ℕ) (i : ℕ) → Chaining c i before latest → Chaining d i before' latest' → FoundInBoth c d i y z Gave (Some j)
+  here_hit {j} e f c d i h k = both_hit (λ n g. let (l, _, t) = (searched_hit p e f c i h).is n g in (l, t))
+
+  pub there_hit : {j : ℕ} → o' ≡ Some j → Gave j true → (c d : ℕ → ℕ) (i : ℕ) → Chaining c i before latest → Chaining d i before' latest' → FoundInBoth c d i y z Gave (Some j)
+  there_hit {j} e f c d i h k = both_hit (λ n g. let (l, _, t) = (searched_hit q e f d i k).is n g in (l, t))
+
+  pub here_end : o ≡ None → (c d : ℕ → ℕ) (i : ℕ) → Chaining c i before latest → Chaining d i before' latest' → FoundInBoth c d i y z Gave None
+  here_end e c d i h k = both_end (λ n l u v. (searched_end p e c i h).last n l tt u)
+
+  pub there_end : o' ≡ None → (c d : ℕ → ℕ) (i : ℕ) → Chaining c i before latest → Chaining d i before' latest' → FoundInBoth c d i y z Gave None
+  there_end e c d i h k = both_end (λ n l u v. (searched_end q e d i k).last n l tt v)

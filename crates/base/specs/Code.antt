@@ -62,3 +62,8 @@ pub record Chaining (c : ℕ → ℕ) (n : ℕ) (before latest : List ℕ) : Typ
 pub record FoundBy (c : ℕ → ℕ) (i y : ℕ) (Gave : ℕ → Bool → Type 0) (o : Maybe ℕ) : Type 0 where
   pub is : (j : ℕ) → o ≡ Some j → (j < i) × (c j ≡ y) × Gave j true
   pub last : (k : ℕ) → k < i → After o k → c k ≡ y → Gave k false
+
+-- o is one of the first i numbers, and a test holds for it; or none, and it holds for none that is chained by y in the one and by z in the other
+pub record FoundInBoth (c d : ℕ → ℕ) (i y z : ℕ) (Gave : ℕ → Bool → Type 0) (o : Maybe ℕ) : Type 0 where
+  pub is : (j : ℕ) → o ≡ Some j → (j < i) × Gave j true
+  pub none : o ≡ None → (k : ℕ) → k < i → c k ≡ y → d k ≡ z → Gave k false

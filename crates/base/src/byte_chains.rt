@@ -1,6 +1,6 @@
 // Numbers in chains, one chain for each byte.
 ghost use Rattle.std.specs.Prelude.{◌≡◌, ◌<◌, ℕ, set, get_or, replicate};
-ghost use Rattle.base.specs.Code.{link_of, Chaining, FoundBy};
+ghost use Rattle.base.specs.Code.{link_of, Chaining, FoundBy, FoundInBoth};
 
 // A link to no number.
 const NONE: u8 = 255;
@@ -69,6 +69,37 @@ impl ByteChains {
                 return Some(j);
             }
             next = self.before(j);
+        }
+        None
+    }
+
+    // A number for which the test holds, where one is chained by y here and by z there. Both chains are walked at once, so no further than the shorter
+    // one goes: numbers that are many in a chain here are few in each chain there, where the two bytes tell them apart.
+    pub fn find_in_both<F: Fn(u8) -> bool>(
+        &self,
+        y: u8,
+        there: &ByteChains,
+        z: u8,
+        test: F,
+    ) -> Option<u8>
+        requires chaining { (c d : ℕ → ℕ) × (i : ℕ) × Chaining c i self.now.before self.now.latest × Chaining d i there.now.before there.now.latest }
+        requires callable { F.IsAlwaysCallable test }
+        ensures { (c d : ℕ → ℕ) → (i : ℕ) → Chaining c i self.now.before self.now.latest → Chaining d i there.now.before there.now.latest → FoundInBoth c d i y z (F.post test) result }
+    {
+        let mut here = self.latest(y);
+        let mut other = there.latest(z);
+        while let Some(j) = here {
+            let Some(k) = other else {
+                return None;
+            };
+            if test(j) {
+                return Some(j);
+            }
+            if test(k) {
+                return Some(k);
+            }
+            here = self.before(j);
+            other = there.before(k);
         }
         None
     }

@@ -1,6 +1,5 @@
 pub mod CallReturns
 pub mod EntryReturns
 pub mod PutLaws
-pub mod RecordLookup
 pub mod TermReturns
 pub mod Theory

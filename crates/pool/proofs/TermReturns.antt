@@ -18,11 +18,11 @@ use Rattle.base.specs.{Code.Wrote, Code.check_of, Computed.passes, Computed.fail
 use Rattle.base.proofs.{AnswerLaws.fails_not_passes, AnswerLaws.if_passes, Order.lt_or_ge, Says.denies, Says.says_eqb, PutLaws.wrote_none}
 use Rattle.term.specs.{Term.Second, Term.absent, Term.anything, Term.key_for, Term.second, Term.unary, Term.Shape, Term.atomic, Term.compound, Number.shape_of}
 use Rattle.submission.specs.declared.Term.{Term}
-use Rattle.submission.specs.{Record.most, Record.terms, Record.kind_at, Record.x_at, Record.y_at, Check.HasSecond, Check.Shaped, Code.IsTerm, Code.TableRead}
+use Rattle.submission.specs.{Record.most, Record.terms, Record.kind_at, Record.x_at, Record.y_at, Check.HasSecond, Check.Shaped, Code.IsTerm, Code.RecordFound, Code.TableRead}
 use Rattle.submission.proofs.Theory.{ListedTerms.facts}
 use Rattle.pool.specs.declared.numbers.Numbers.{Numbers}
 use Rattle.pool.specs.Pool.{is_missing, pool_number, operands, renumbered}
-use Rattle.pool.specs.Code.{RecordFound, terms_to, check_most, Noted}
+use Rattle.pool.specs.Code.{terms_to, check_most, Noted}
 use Rattle.pool.proofs.Theory.PoolNumbers.{InFirst, Missing, in_or_missing, rank_missing, rank_present, same_row, same_term}
 
 -- ---- check 20: no more than the most, and one more than these
@@ -52,11 +52,11 @@ module _ {a b : List ℕ} {j : ℕ} {numbers : Numbers} {t u : Term} (z : TableR
       let h : operands (λ n. get_or numbers.of n 0) (shape_of t.kind) t.x t.y ≡ operands (pool_number a b) (shape_of (kind_at b j)) (x_at b j) (y_at b j) = rw (q.kind, q.x, q.y, g.has) (operands_right g.shape g.fits) in
       ap₂ (λ n r. n ∷ r) (k ∙ q.kind) (e ∙ h)
 
-  module _ (o : Option ℕ) (r : RecordFound a u o) where
+  module _ (o : Option ℕ) (r : RecordFound a (terms a) u o) where
     -- it is found where the first lists the term, and only there
     pub found_number : (n : ℕ) → o ≡ Some n → InFirst a b j × (pool_number a b j ≡ n)
     found_number n f =
-        let (m, w) : (n < terms a) × IsTerm a n u = subst (RecordFound a u) f r in
+        let (m, w) : (n < terms a) × IsTerm a n u = subst (RecordFound a (terms a) u) f r in
         let same = same_row (facts z) (facts y) n j m l (rw (← w.kind, ← w.x, ← w.y) renumbered_right) in
         ⊎_elim
         (λ (i : InFirst a b j). (i, i.is ∙ (facts z).same_number i.number n i.below m (sym i.same ∙ same)))
@@ -68,7 +68,7 @@ module _ {a b : List ℕ} {j : ℕ} {numbers : Numbers} {t u : Term} (z : TableR
       where
         none : InFirst a b j → ⊥
         none i =
-            let g : (n : ℕ) → n < terms a → IsTerm a n u → ⊥ = subst (RecordFound a u) f r in
+            let g : (n : ℕ) → n < terms a → IsTerm a n u → ⊥ = subst (RecordFound a (terms a) u) f r in
             let w = renumbered_right ∙ sym (same_term (facts z) (facts y) i.number j i.below l i.same) in
             g i.number i.below (record { kind = cc; x = cc; y = cc })
 

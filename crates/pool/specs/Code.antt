@@ -1,16 +1,10 @@
 -- What the code's structs and answers mean.
-use Rattle.std.specs.Prelude.{◌≡◌, ◌+◌, ◌≤◌, ◌<◌, Option, Some, None}
+use Rattle.std.specs.Prelude.{◌≡◌, ◌+◌, ◌≤◌, ◌<◌}
 use Rattle.std.specs.List.{flat_map}
 use Rattle.base.specs.{Words.List, Words.ℕ, Words.ltb, Words.length, Words.get_or, Computed.Check, Computed.fails_if}
-use Rattle.submission.specs.declared.Term.{Term}
-use Rattle.submission.specs.{Record.most, Record.terms, Record.entries, Code.IsTerm}
+use Rattle.submission.specs.{Record.most, Record.terms, Record.entries}
 use Rattle.pool.specs.declared.numbers.Numbers.{Numbers}
 use Rattle.pool.specs.Pool.{missing, pool_number, renumbered, new_entries}
-
--- o is the number of the record of s that t holds, where there is one
-abbrev pub RecordFound : List ℕ → Term → Option ℕ → Type 0
-RecordFound s t None = (n : ℕ) → n < terms s → IsTerm s n t → ⊥
-RecordFound s t (Some n) = (n < terms s) × IsTerm s n t
 
 -- the pool's terms, as far as the second's first n go, and the records of those of them that are missing
 abbrev pub terms_to : List ℕ → List ℕ → ℕ → ℕ

@@ -1,6 +1,6 @@
 // Two submissions joined, as by two eavesdroppers who share what they heard: document 02, A8.
 // Promises: the call is total, for all bytes, and its answer and the page's later bytes are what the definitions of specs/ give.
-// Cost: one pass over the terms of each. A record of the second is compared with those of the first that are in its chain, and with nothing else.
+// Cost: one pass over the terms of each. A record of the second is compared with those of the first that are in its chains, and with nothing else.
 #![tactic(auto)]
 
 ghost use Rattle.std.specs.Prelude.{◌≡◌, ◌≤◌, ◌<◌, ◌+◌, ◌++◌, IfOk, take, cond, length, []};
@@ -15,11 +15,11 @@ ghost use Rattle.pool.specs.Calls.{PoolWritten};
 mod lookup;
 mod numbers;
 
-use base::{ByteChains, Fault, Refusal, Writer};
+use base::{Fault, Refusal, Writer};
 use form::Bodies;
 use lookup::Lookup;
 use numbers::Numbers;
-use submission::{Submission, Table};
+use submission::{RecordChains, Submission, Table};
 
 // The bytes of the most terms, and of the most entries of the knowledge.
 const TERMS_SIZE: usize = 750;
@@ -77,14 +77,14 @@ fn pool_terms(
     first: Table,
     second: Table,
     numbers: &mut Numbers,
-    buffer: &mut [u8; 750],
+    buffer: &mut [u8; TERMS_SIZE],
 ) -> Result<usize, Refusal>
     requires { Noted first.bytes.now second.bytes.now 0 numbers.old }
     ensures answer { check_of result ≡ check_most 0 (terms_to first.entry.bytes.now second.entry.bytes.now (term_count second.entry.bytes.now)) }
     ensures numbers { IfOk result (λ n. Noted first.entry.bytes.now second.entry.bytes.now (term_count second.entry.bytes.now) numbers.new) }
     ensures bytes { IfOk result (λ n. (n ≤ 750) × (take n buffer.new ≡ body_at first.entry.bytes.now 0 ++ missing_records first.entry.bytes.now second.entry.bytes.now (term_count second.entry.bytes.now))) }
 {
-    let mut chains = ByteChains::new();
+    let mut chains = RecordChains::new();
     lookup::chain_records(first, &mut chains);
     let lookup = Lookup {
         table: first,
@@ -128,7 +128,7 @@ fn pool_knowledge(
     first: Table,
     second: Table,
     numbers: &Numbers,
-    buffer: &mut [u8; 64],
+    buffer: &mut [u8; KNOWLEDGE_SIZE],
 ) -> Result<usize, Refusal>
     requires { Noted first.bytes.now second.bytes.now (term_count second.bytes.now) numbers.now }
     ensures answer { check_of result ≡ check_most 1 (entries_to first.entry.bytes.now second.entry.bytes.now (entry_count second.entry.bytes.now)) }
@@ -149,8 +149,8 @@ fn write_pool(first: Submission, second: Submission, page: &mut [u8]) -> Result<
     let given = first.table();
     let added = second.table();
     let mut numbers = Numbers::new(given.terms());
-    let mut terms = [0; 750];
-    let mut knowledge = [0; 64];
+    let mut terms = [0; TERMS_SIZE];
+    let mut knowledge = [0; KNOWLEDGE_SIZE];
     let terms_end = pool_terms(given, added, &mut numbers, &mut terms)?;
     let knowledge_end = pool_knowledge(given, added, &numbers, &mut knowledge)?;
     let own = Bodies::of(given);

@@ -1,7 +1,8 @@
 -- What the code's records mean in document 01's terms.
 use mathlib.Core.{Path.◌≡◌, List.List, Option.none, Option.some}
-use Rattle.std.specs.Prelude.{ℕ, ◌+◌, ◌*◌, ◌%◌, ◌≤◌, Result, Ok, Err, Option as Maybe, Some, None}
+use Rattle.std.specs.Prelude.{ℕ, ◌+◌, ◌*◌, ◌%◌, ◌≤◌, ◌<◌, Result, Ok, Err, Option as Maybe, Some, None}
 use Rattle.submission.specs.declared.Term.{Term}
+use Rattle.submission.specs.declared.chains.RecordChains.{RecordChains}
 use Rattle.submission.specs.declared.Claim.{Claim}
 use Rattle.submission.specs.declared.ClaimBytes.{ClaimBytes}
 use Rattle.submission.specs.declared.Way.{Way as WayRead}
@@ -17,7 +18,7 @@ use Rattle.submission.specs.declared.Operand.{Operand as OperandRead}
 use Rattle.submission.specs.declared.Operand.TheVariants.{VerifyingResult, CompanionResult, LowestConclusion, LowestCompanion, GuessRegister, GivenRegister}
 use Rattle.submission.specs.declared.Row.{Row as RowRead}
 use Rattle.base.specs.declared.refusal.Refusal.{Refusal}
-use Rattle.base.specs.Code.{check_of}
+use Rattle.base.specs.Code.{check_of, Chaining}
 use Rattle.submission.specs.{Check.Way, Check.another_step, Check.at_start, Check.inverse_key, Check.guess_derived, Check.inverse_derived, Check.way_of, Check.Target, Check.the_guess, Check.its_inverse, Check.Claims, Check.verifier, Check.derived, Check.Range, Check.step_number, Check.term_number, Check.zero_only, Check.step_or_knowledge, Check.Operand, Check.verifying_result, Check.companion_result, Check.lowest_conclusion, Check.lowest_companion, Check.guess_register, Check.given_register, Check.row, Check.knowledge_step, Record.start, Record.count, Record.kind_at, Record.x_at, Record.y_at, Record.guess, Record.verifying, Record.way_at, Record.companion, Record.InKnowledge, Computed.checks1to4, Computed.checks1to5}
 use Rattle.term.specs.Term as words
 use Rattle.term.specs.Code.{relation_is}
@@ -116,9 +117,19 @@ pub record ClaimRead (s : List ℕ) (d : Check) (r : Result Claim Refusal) : Typ
   pub answer : check_of r ≡ d
   pub claim : (c : Claim) → r ≡ Ok c → IsClaim s c
 
--- the byte by which records are chained, made of x and y; equal records have the same
-abbrev pub chained_by : List ℕ → ℕ → ℕ
-chained_by s i = (21 * x_at s i + y_at s i) % 256
+-- the byte by which records are chained, made of x and y with a factor; equal records have the same
+abbrev pub chained_by : ℕ → List ℕ → ℕ → ℕ
+chained_by k s i = (k * x_at s i + y_at s i) % 256
+
+-- the first i records are chained by two such bytes
+pub record RecordsChained (s : List ℕ) (i : ℕ) (c : RecordChains) : Type 0 where
+  pub first : Chaining (chained_by 21 s) i c.first.before c.first.latest
+  pub second : Chaining (chained_by 42 s) i c.second.before c.second.latest
+
+-- o is the number of one of the first i records that t holds, where there is one
+abbrev pub RecordFound : List ℕ → ℕ → Term → Maybe ℕ → Type 0
+RecordFound s i t None = (n : ℕ) → n < i → IsTerm s n t → ⊥
+RecordFound s i t (Some n) = (n < i) × IsTerm s n t
 
 -- what the limits say of the counts that programs and registers are made of
 pub record Limited (s : List ℕ) : Type 0 where

@@ -12,12 +12,14 @@ ghost use Rattle.submission.specs.Record.{letter, count as count_in, start, term
 ghost use Rattle.submission.specs.Computed.{are_inverse, bad_contents, check_limits, in_range, shape_fits, same_record, bad_term, bad_knowledge, good_claim, checks1to4, checks1to5};
 ghost use Rattle.submission.specs.Check.{way_of, row, verifier, derived, step_number, zero_only, step_or_knowledge, verifying_result, guess_register, given_register};
 ghost use Rattle.base.specs.Computed.{any, fails_at, fails_if};
-ghost use Rattle.base.specs.Code.{check_of, Flagged, Chaining};
-ghost use Rattle.submission.specs.Code.{Starts, IsTerm, way_is, ReadsWay, range_is, target_is, claims_is, operand_is, IsRow, IsClaimBytes, ClaimRead, step_named, chained_by};
+ghost use Rattle.base.specs.Code.{check_of, Flagged};
+ghost use Rattle.submission.specs.Code.{Starts, IsTerm, way_is, ReadsWay, range_is, target_is, claims_is, operand_is, IsRow, IsClaimBytes, ClaimRead, step_named, RecordsChained};
 
+pub mod chains;
 pub mod read;
 
-use base::{ByteChains, Fault, Refusal, byte, bytes_at, word};
+use base::{Fault, Refusal, byte, bytes_at, word};
+pub use chains::RecordChains;
 pub use read::{Claimed, Submission, Table};
 use term::{Kind, Relation};
 
@@ -303,26 +305,17 @@ fn shape_fits(s: &[u8], i: u8, t: Term) -> bool
     t.takes(term_at(s, t.y))
 }
 
-// The byte by which a record is chained, the same for equal records. The factor spreads records that have one x or one y, and those whose x
-// and y rise or fall together: at most four of 256 such have the same byte.
-pub fn chain_of(t: Term) -> u8
-    ensures { result ≡ (21 * t.x + t.y) % 256 }
+// Whether one of the records that are chained equals t: those before record i, where it is record i.
+fn is_repeated(s: &[u8], chains: &RecordChains, t: Term) -> bool
+    requires { (i : ℕ) × RecordsChained s.now i chains.now }
+    ensures { (i : ℕ) → RecordsChained s.now i chains.now → IsTerm s.now i t → result ≡ any (same_record s.now i) i }
 {
-    t.x.wrapping_mul(21).wrapping_add(t.y)
-}
-
-// Whether one of the records that are chained equals t: those before record i, where it is record i. Only those of its chain are compared. `Chaining`
-// is asked and is no field of the chains: it grows with each number, so a field would hold between no two writes.
-fn is_repeated(s: &[u8], chains: &ByteChains, t: Term) -> bool
-    requires { (i : ℕ) × Chaining (chained_by s.now) i chains.now.before chains.now.latest }
-    ensures { (i : ℕ) → Chaining (chained_by s.now) i chains.now.before chains.now.latest → IsTerm s.now i t → result ≡ any (same_record s.now i) i }
-{
-    chains.find(chain_of(t), |j| term_at(s, j) == t).is_some()
+    chains.find(s, t).is_some()
 }
 
 #[tactic(auto, unfolding(crate::specs::Computed::bad_term))]
-fn is_term_bad(s: &[u8], chains: &ByteChains, i: u8, t: Term) -> bool
-    requires chaining { Chaining (chained_by s.now) i chains.now.before chains.now.latest }
+fn is_term_bad(s: &[u8], chains: &RecordChains, i: u8, t: Term) -> bool
+    requires chaining { RecordsChained s.now i chains.now }
     requires term { IsTerm s.now i t }
     ensures { result ≡ bad_term s.now i }
 {
@@ -334,13 +327,13 @@ pub fn check_terms(s: &[u8]) -> Result<(), Refusal>
     ensures { check_of result ≡ fails_at 3 (first (bad_term s.now) (term_count s.now)) }
 {
     let n = terms(s);
-    let mut chains = ByteChains::new();
+    let mut chains = RecordChains::new();
     for i in 0..n {
         let t = term_at(s, i);
         if is_term_bad(s, &chains, i, t) {
             return Err(Fault::Term.at(u16::from(i)));
         }
-        chains.chain(chain_of(t), i);
+        chains.add(t, i);
     }
     Ok(())
 }

@@ -1,16 +1,12 @@
--- `check_terms` meets its contract: the records before i are good, and their chains are made.
+-- `check_terms` meets its contract: the records before i are good, and chained.
 use mathlib.Core.Path.{refl, sym, ◌∙◌}
-use Prim.Native.Nat.{◌<◌}
-use native.Mathlib.Omega.{arith}
 use Rattle.base.proofs.Scan.{scan}
 use Rattle.base.proofs.First.{passed_none}
 use Rattle.base.proofs.StageLaws.{fails_hit, passes_all}
-use Rattle.base.proofs.Chains.{chaining_none}
-use Rattle.submission.proofs.TermTests.{record_chained}
 use Rattle.submission.proofs.check_terms.Goals as goal
 
 pub loop-i-init : goal.loop-i-init
-loop-i-init c = (passed_none, rw (c.new-chains.ensures.before, c.new-chains.ensures.latest) chaining_none)
+loop-i-init c = (passed_none, c.new-chains.ensures _)
 
 pub returns-then-is_term_bad : goal.returns-then-is_term_bad
 returns-then-is_term_bad c =
@@ -18,8 +14,7 @@ returns-then-is_term_bad c =
 
 pub loop-i-preserved : goal.loop-i-preserved
 loop-i-preserved c =
-    let m : c.terms-n.result < 256 = omega arith in
-    (search scan, record_chained _ c.loop-i.invariant.1 c.loop-i-test.true m c.term_at-t.ensures c.chain_of.ensures c.chain.ensures.before c.chain.ensures.latest)
+    (search scan, c.add.ensures _ c.loop-i.invariant.1 c.term_at-t.ensures)
 
 pub returns : goal.returns
 returns c = search (passes_all, scan)
