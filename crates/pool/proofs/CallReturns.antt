@@ -1,4 +1,4 @@
--- The checks in order: a law for each return of the call.
+-- Check 20 and the page: a law for each return of `write_pool`.
 use mathlib.Core.Path.{◌≡◌, refl, sym, ap, ◌∙◌}
 use mathlib.Core.Bool.{Bool, true, false, or-true}
 use mathlib.Core.List.{List, ◌++◌}
@@ -9,8 +9,8 @@ use lib.Dec.{ltb}
 use Rattle.std.specs.Prelude.{Result, Ok, Err}
 use Rattle.base.specs.declared.refusal.Refusal.{Refusal}
 use Rattle.base.proofs.AnswerLaws.{fails_not_passes, if_passes}
-use Rattle.base.specs.{Answer.refused, Answer.number_of, Answer.answer_of, Code.check_of, Computed.fails, Computed.fails_if, Computed.passes}
-use Rattle.submission.specs.{Record.most, Record.terms, Record.entries, Body.Bodies, Body.bodies, Body.records, Body.body_at, Body.bodies_of, Code.SubmissionRead, Code.TableRead, Computed.checks1to5}
+use Rattle.base.specs.{Answer.refused, Answer.number_of, Answer.answer_of, Code.check_of, Computed.fails, Computed.fails_if}
+use Rattle.submission.specs.{Record.most, Record.terms, Record.entries, Body.Bodies, Body.bodies, Body.records, Body.body_at, Body.bodies_of, Code.SubmissionRead, Code.TableRead}
 use Rattle.form.specs.{Computed.write_answer, Calls.FormWritten}
 use Rattle.pool.specs.declared.numbers.Numbers.{Numbers}
 use Rattle.pool.specs.{Pool.pool, Pool.new_entries, Computed.overfull, Computed.join_answer, Code.check_most, Code.terms_to, Code.entries_to, Code.missing_records, Code.Noted, Calls.PoolWritten}
@@ -37,16 +37,6 @@ module _ (a b page : List ℕ) where
   -- the answer is a refusal, and the page stays
   refused_written : {number place : ℕ} (r : Result ℕ Refusal) → join_answer a b (length page) ≡ refused number place → answer_of r ≡ refused number place → PoolWritten a b page r page
   refused_written r e f = record { answer = f ∙ sym e; bytes = rw e }
-
-  -- a refusal of the first's checks, and of the second's
-  pub first_refused : (r : Result ℕ Refusal) (x : Refusal) → fails (number_of x.fault) x.place ≡ checks1to5 a → answer_of r ≡ refused (number_of x.fault) x.place → PoolWritten a b page r page
-  unfolding join_answer
-  first_refused r x e f = refused_written r (rw (← e)) f
-
-  pub second_refused : (r : Result ℕ Refusal) (x : Refusal) → passes ≡ checks1to5 a → fails (number_of x.fault) x.place ≡ checks1to5 b → answer_of r ≡ refused (number_of x.fault) x.place →
-      PoolWritten a b page r page
-  unfolding join_answer
-  second_refused r x e f g = refused_written r (rw (← e, ← f)) g
 
 -- ---- check 20, of the terms and of the entries
 -- it refused

@@ -21,7 +21,7 @@ use Rattle.form.proofs.Theory.RoundTrip.{body_length, body_byte}
 use Rattle.pool.specs.declared.numbers.Numbers.{Numbers}
 use Rattle.pool.specs.Pool.{pool_number, is_entry, new_entries}
 use Rattle.pool.specs.Code.{entries_to, check_most, Noted}
-use Rattle.pool.proofs.Theory.{PoolLists.kept_more, PoolKnowledge.says_entry}
+use Rattle.pool.proofs.Theory.{PoolLists.kept_more, PoolLists.kept_rises, PoolKnowledge.says_entry}
 use Rattle.pool.proofs.TermReturns.{above_most}
 
 -- ---- whether a number is among the first's entries
@@ -78,20 +78,9 @@ module _ (a b : List ℕ) (r : ℕ) where
   one_entry_more e = rw (entry_new e) (let z = length-append (new_entries a b r) (of_entry ∷ []) in omega arith)
 
 -- more entries, no fewer in the pool
-entries_step : (a b : List ℕ) (r : ℕ) → entries_to a b r ≤ entries_to a b (r + 1)
-entries_step a b r = go (is_entry a (pool_number a b (entry_at b r))) refl
-  where
-    go : (t : Bool) → is_entry a (pool_number a b (entry_at b r)) ≡ t → entries_to a b r ≤ entries_to a b (r + 1)
-    go true e = omega (arith, ap length (entry_known a b r e))
-    go false e = omega (arith, one_entry_more a b r e)
-
 pub entries_kept : (a b : List ℕ) (r n : ℕ) → r ≤ n → entries_to a b r ≤ entries_to a b n
-entries_kept a b r zero l = let e : r ≡ 0 = omega arith in rw e (omega arith)
-entries_kept a b r (suc n) l =
-    ⊎_elim
-    (λ (h : r < suc n). let m = entries_kept a b r n (omega arith) in let k = rw (add-one n) at (entries_step a b n) in omega arith)
-    (λ (h : suc n ≤ r). let e : r ≡ suc n = omega arith in rw e (omega arith))
-    (lt_or_ge r (suc n))
+unfolding new_entries
+entries_kept a b r n l = let m = kept_rises (λ k. not (is_entry a k)) (λ r. pool_number a b (entry_at b r)) r n l in omega arith
 
 -- ---- the loop: of the entries before r those that are new are put, and the pool has room for them
 module _ (a b : List ℕ) (r : ℕ) {u v : Writer} (at : u.at ≡ entries a) (room : length u.buffer.now ≡ 64) (few : entries_to a b r ≤ 64) (w : Wrote u (new_entries a b r) v) where

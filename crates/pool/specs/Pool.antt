@@ -3,13 +3,13 @@ use Rattle.std.specs.Prelude.{◌≡◌, ◌⊎◌, ◌∷◌, ◌++◌, ◌+◌
 use Rattle.std.specs.List.{filter, flat_map}
 use Rattle.base.specs.{Words.Bool, Words.not, Words.cond, Words.List, Words.[], Words.Option, Words.none, Words.some, Words.ℕ, Words.eqb, Words.length, Words.listed, Answer.numbered, Answer.row11, Computed.any}
 use Rattle.term.specs.{Term.unary, Term.second, Term.Shape, Term.atomic, Term.compound, Number.shape_of}
-use Rattle.submission.specs.Record.{most, terms, entries, kind_at, x_at, y_at, entry_at, term, number_in, unlisted}
+use Rattle.submission.specs.Record.{most, terms, entries, kind_at, x_at, y_at, entry_at, term, number_in, is_unlisted}
 use Rattle.submission.specs.{Body.Bodies, Body.bodies, Body.records, Body.body_at, Body.submission_of, Check.rows1to5}
 
 -- ---- the pool
 -- of the second's first n terms those "that are missing, in order": the numbers of those that the first does not list, as terms
 abbrev pub is_missing : List ℕ → List ℕ → ℕ → Bool
-is_missing a b j = unlisted a (term b j)
+is_missing a b j = is_unlisted a (term b j)
 
 unfoldable pub missing : List ℕ → List ℕ → ℕ → List ℕ
 missing a b n = filter (is_missing a b) (listed (λ j. j) n)

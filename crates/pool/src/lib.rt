@@ -6,9 +6,8 @@
 ghost use Rattle.std.specs.Prelude.{◌≡◌, ◌≤◌, ◌<◌, ◌+◌, ◌++◌, IfOk, take, cond, length, []};
 ghost use Rattle.base.specs.Code.{check_of, Wrote};
 ghost use Rattle.submission.specs.Record.{terms as term_count, entries as entry_count};
-ghost use Rattle.submission.specs.Body.{body_at, bodies_of};
-ghost use Rattle.form.specs.Code.{bodies_in};
-ghost use Rattle.pool.specs.Pool.{is_missing, renumbered, new_entries, pool};
+ghost use Rattle.submission.specs.Body.{body_at};
+ghost use Rattle.pool.specs.Pool.{is_missing, renumbered, new_entries};
 ghost use Rattle.pool.specs.Code.{terms_to, missing_records, entries_to, check_most, Noted};
 ghost use Rattle.pool.specs.Calls.{PoolWritten};
 

@@ -1,5 +1,4 @@
 // A table whose records are chained, for finding the one that equals a given record.
-ghost use Rattle.std.specs.Prelude.{◌≡◌};
 ghost use Rattle.submission.specs.Record.{terms};
 ghost use Rattle.submission.specs.Code.{RecordsChained, RecordFound};
 

@@ -1,5 +1,5 @@
 // The pool's numbers of the second submission's terms.
-ghost use Rattle.std.specs.Prelude.{◌≡◌, ◌∷◌, [], ◌<◌, ◌≤◌, ◌+◌, ℕ, set, get_or, IfOk, replicate};
+ghost use Rattle.std.specs.Prelude.{◌≡◌, ◌∷◌, [], ◌<◌, ◌≤◌, ◌+◌, set, get_or, IfOk, replicate};
 ghost use Rattle.term.specs.Number.{shape_of};
 ghost use Rattle.base.specs.Words.{eqb};
 ghost use Rattle.base.specs.Code.{check_of};

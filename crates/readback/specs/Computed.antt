@@ -1,7 +1,7 @@
 -- The answer of reading back, computed; that it is as the rows say is proved: `read_back_exact`.
 use Rattle.std.specs.Prelude.{◌&&◌, ◌||◌}
 use Rattle.base.specs.{Words.Bool, Words.List, Words.ℕ, Words.eqb, Words.ltb, Words.first, Words.byte, Answer.Answer, Answer.done, Computed.Check, Computed.fails_at, Computed.fails_if, Computed.check_room, Computed.and_then, Computed.answered}
-use Rattle.submission.specs.{Record.entries, Record.unlisted, Computed.checks1to5}
+use Rattle.submission.specs.{Record.entries, Record.is_unlisted, Computed.checks1to5}
 use Rattle.derivation.specs.Step.{written}
 use Rattle.program.specs.{Program.Instruction, Program.test_at, Computed.bad_program}
 use Rattle.machine.specs.Run.{held}
@@ -9,7 +9,7 @@ use Rattle.readback.specs.ReadBack.{bodies_length}
 
 -- the term of register r isn't listed
 unfoldable pub off_table : List ℕ → List ℕ → ℕ → Bool
-off_table s P r = unlisted s (held s P r)
+off_table s P r = is_unlisted s (held s P r)
 
 -- the test's first register is a knowledge register, or both are the guess's
 abbrev pub no_claim : List ℕ → Instruction → Bool

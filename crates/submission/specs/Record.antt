@@ -105,15 +105,15 @@ unfoldable pub term : List ℕ → ℕ → Term
 term s n = get_or (decoded (record_at s) (terms s)) n void
 
 -- the term t is that of number n; and the number of the term t, where it is listed: "equal terms have equal numbers"
-abbrev pub is_term : List ℕ → Term → ℕ → Bool
-is_term s t n = ite (term? t (term s n)) true false
+abbrev pub is_numbered : List ℕ → Term → ℕ → Bool
+is_numbered s t n = ite (term? t (term s n)) true false
 
 unfoldable pub number_in : List ℕ → Term → Option ℕ
-number_in s t = first (is_term s t) (terms s)
+number_in s t = first (is_numbered s t) (terms s)
 
 -- it is not listed
-abbrev pub unlisted : List ℕ → Term → Bool
-unlisted s t = elim (number_in s t) [ none ↦ true | some n ↦ false ]
+abbrev pub is_unlisted : List ℕ → Term → Bool
+is_unlisted s t = elim (number_in s t) [ none ↦ true | some n ↦ false ]
 
 -- a message in the knowledge
 abbrev pub InKnowledge : List ℕ → Term → Type 0

@@ -6,8 +6,8 @@ use crate::Term;
 use base::ByteChains;
 
 // The factors of x in the two bytes by which a record is chained, the same for equal records: 21x + y and 42x + y. Each spreads records that have one x
-// or one y, and those whose x and y rise or fall together: at most four of 256 such have the same byte. And the two bytes tell x and y, so records
-// that are many in one chain of the one kind are in different chains of the other.
+// or one y, and those whose x and y rise or fall together: at most four of 256 such have the same byte. And the two bytes tell x and y, so
+// records that are many in one chain by the one byte are in different chains by the other, but for those with one x and one y, of which each kind has one.
 const FIRST_FACTOR: u8 = 21;
 
 const SECOND_FACTOR: u8 = 42;
@@ -45,8 +45,8 @@ impl RecordChains {
         self.second.chain(chain_of(SECOND_FACTOR, t), i);
     }
 
-    // The number of the record that equals t, where one that is chained does. Only those of its two chains are compared, and no more than the
-    // shorter one has.
+    // The number of the record that equals t, where one that is chained does. Only those of its two chains are compared, and no more than
+    // twice as many as the shorter one has.
     pub fn find(&self, s: &[u8], t: Term) -> Option<u8>
         requires { (i : ℕ) × RecordsChained s.now i self.now }
         ensures { (i : ℕ) → RecordsChained s.now i self.now → RecordFound s.now i t result }

@@ -2,7 +2,7 @@
 // Promises: every function is total, for all bytes, and its answer is what the definitions of specs/ give.
 #![tactic(auto)]
 
-ghost use Rattle.std.specs.Prelude.{◌≡◌, ◌&&◌, ℕ, not, cond, ◌+◌, ◌*◌, ◌%◌, ◌<◌, eqb, get_or};
+ghost use Rattle.std.specs.Prelude.{◌≡◌, ◌&&◌, ℕ, not, cond, ◌+◌, ◌*◌, ◌<◌, eqb, get_or};
 ghost use Rattle.base.specs.Words.{false, first, byte as byte_at};
 ghost use Rattle.term.specs.Term.{symmetric, asymmetric, is_key_for};
 ghost use Rattle.term.specs.Number.{shape_of};

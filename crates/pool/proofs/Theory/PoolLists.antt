@@ -21,6 +21,16 @@ module _ (t : ℕ → Bool) (f : ℕ → ℕ) where
   unfolding grow
   kept_more n = filter-append t (listed f n) (f n ∷ [])
 
+  -- of more there are no fewer
+  pub kept_rises : (j n : ℕ) → j ≤ n → length (kept j) ≤ length (kept n)
+  kept_rises j zero l = let e : j ≡ 0 = omega arith in rw e (omega arith)
+  kept_rises j (suc n) l =
+      let z : List ℕ = cond (t (f n)) (f n ∷ []) [] in
+      ⊎_elim
+      (λ (h : j < suc n). let m : length (kept j) ≤ length (kept n) = kept_rises j n (omega arith) in rw (kept_more n) (omega (arith, length-append (kept n) z)))
+      (λ (h : suc n ≤ j). let e : j ≡ suc n = omega arith in rw e (omega arith))
+      (lt_or_ge j (suc n))
+
   -- nothing, where none passes
   pub kept_none : (n : ℕ) → ((j : ℕ) → j < n → t (f j) ≡ false) → kept n ≡ []
   unfolding grow

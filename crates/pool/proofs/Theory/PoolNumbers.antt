@@ -4,19 +4,18 @@ use mathlib.Core.Logic.{◌⊎◌, inl, inr, ⊎_elim}
 use mathlib.Core.Bool.{Bool, true, false, cond}
 use mathlib.Core.List.{List, [], ◌∷◌, ◌++◌}
 use mathlib.Core.Option.{Option, none, some}
-use Prim.Native.Nat.{ℕ, zero, suc, ◌+◌, ◌*◌, ◌≤◌, ◌<◌}
+use Prim.Native.Nat.{ℕ, suc, ◌+◌, ◌*◌, ◌≤◌, ◌<◌}
 use native.Mathlib.Nat.{add-zero}
 use native.Mathlib.Omega.{arith}
 use lib.ListN.{length, length-append}
 use Rattle.base.specs.Words.{grow}
-use Rattle.base.proofs.Order.{lt_or_ge}
 use Rattle.term.specs.Term.{Second, absent, anything, key_for, second, unary, make, atom, node, Shape, atomic, compound, shape}
 use Rattle.term.specs.Number.{shape_of}
 use Rattle.term.proofs.KindLaws.{shape_kind}
-use Rattle.submission.specs.{Record.terms, Record.kind_at, Record.x_at, Record.y_at, Record.name_at, Record.term, Record.number_in, Record.unlisted, Check.HasSecond, Check.Shaped}
+use Rattle.submission.specs.{Record.terms, Record.kind_at, Record.x_at, Record.y_at, Record.name_at, Record.term, Record.number_in, Record.is_unlisted, Check.HasSecond, Check.Shaped}
 use Rattle.submission.proofs.Theory.{GoodRecord.name_bytes, ListedTerms.Listed, ListedNumbers.number_some, ListedNumbers.number_none, ListedNumbers.number_unique, ListedNumbers.record_term, ListedNumbers.listed_shape}
 use Rattle.pool.specs.Pool.{is_missing, missing, pool_number, renumbered}
-use Rattle.pool.proofs.Theory.{MappedRecord.record_bytes, PoolLists.kept_more}
+use Rattle.pool.proofs.Theory.{MappedRecord.record_bytes, PoolLists.kept_more, PoolLists.kept_rises}
 
 -- ---- one term more
 pub missing_none : (a b : List ℕ) → missing a b 0 ≡ []
@@ -49,8 +48,8 @@ unfolding pool_number
 in_or_missing a b j = go (number_in a (term b j)) refl
   where
     go : (o : Option ℕ) → number_in a (term b j) ≡ o → InFirst a b j ⊎ Missing a b j
-    go none e = inr (record { lacks = number_none a (term b j) e; is = rw (e, pool_number); absent = rw (e, unlisted) })
-    go (some n) e = let (l, h) = number_some a (term b j) n e in inl (record { number = n; below = l; same = h; is = rw (e, pool_number); present = rw (e, unlisted) })
+    go none e = inr (record { lacks = number_none a (term b j) e; is = rw (e, pool_number); absent = rw (e, is_unlisted) })
+    go (some n) e = let (l, h) = number_some a (term b j) n e in inl (record { number = n; below = l; same = h; is = rw (e, pool_number); present = rw (e, is_unlisted) })
 
 module _ (a b : List ℕ) where
   rank_next : (n : ℕ) → rank a b (suc n) ≡ rank a b n + cond (is_missing a b n) 1 0
@@ -66,13 +65,10 @@ module _ (a b : List ℕ) where
   pub rank_present : (n : ℕ) → is_missing a b n ≡ false → rank a b (suc n) ≡ rank a b n
   rank_present n e = rank_next n ∙ rw e (add-zero (rank a b n))
 
-  rank_step : (n : ℕ) → rank a b n ≤ rank a b (suc n)
-  rank_step n = omega (arith, rank_next n)
-
   -- more terms, no fewer missing
   pub rank_kept : (j n : ℕ) → j ≤ n → rank a b j ≤ rank a b n
-  rank_kept j zero l = let e : j ≡ 0 = omega arith in rw e (omega arith)
-  rank_kept j (suc n) l = ⊎_elim (λ h. let m = rank_kept j n (omega arith) in let k = rank_step n in omega arith) (λ h. let e : j ≡ suc n = omega arith in rw e (omega arith)) (lt_or_ge j (suc n))
+  unfolding missing
+  rank_kept = kept_rises (is_missing a b) (λ j. j)
 
   -- a missing term counts for those after it
   pub rank_less : (j n : ℕ) → j < n → is_missing a b j ≡ true → rank a b j < rank a b n

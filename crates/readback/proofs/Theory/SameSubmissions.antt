@@ -12,7 +12,7 @@ use Rattle.base.specs.Answer.{Clear}
 use Rattle.base.proofs.{Fours.fours_alike, Grow.grow_alike, First.first_equal}
 use Rattle.term.specs.Term.{atom, atom_kind, void, decoded}
 use Rattle.term.specs.Computed.{term?}
-use Rattle.submission.specs.Record.{terms, entries, kind_at, x_at, y_at, name_at, entry_at, guess, record_at, term, is_term, number_in, guessed}
+use Rattle.submission.specs.Record.{terms, entries, kind_at, x_at, y_at, name_at, entry_at, guess, record_at, term, is_numbered, number_in, guessed}
 use Rattle.term.specs.Number.{shape_of}
 use Rattle.submission.specs.Body.{body_at}
 use Rattle.submission.specs.Check.{Range, step_number, term_number, zero_only, step_or_knowledge, row, rows1and2}
@@ -88,7 +88,7 @@ module _ {s s' : List ℕ} (a : Agree s s') where
     unfolding number number_in
     number_alike P r =
         ap (λ o. elim o [ none ↦ 0 | some n ↦ n ])
-        (first_equal (is_term s (held s P r)) (is_term s' (held s' P r)) (terms s) (λ n b. ap₂ (λ h t. ite (term? h t) true false) (held_alike P r) (term_alike n)) ∙ ap (first (is_term s' (held s' P r))) a.same_terms)
+        (first_equal (is_numbered s (held s P r)) (is_numbered s' (held s' P r)) (terms s) (λ n b. ap₂ (λ h t. ite (term? h t) true false) (held_alike P r) (term_alike n)) ∙ ap (first (is_numbered s' (held s' P r))) a.same_terms)
 
     -- ---- the same bodies
     step_alike : (P : List ℕ) (i : ℕ) → step_read s P i ≡ step_read s' P i
