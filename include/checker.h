@@ -122,8 +122,9 @@ uint32_t checker_deduction(const uint8_t *sub, size_t sub_len, uint8_t term, uin
    The pool passes checks 1 to 5. Its terms are exactly those of the two, its knowledge is exactly their messages, and each term of the
    first keeps its number. A term deducible from either is deducible from the pool, under its number there. So a first submission that is
    accepted may become reachable: on a page that is long enough, checker_check accepts the pool with the same N, or refuses it with 8 at
-   the verifying step, and answers nothing else; in ways k and j it accepts it. A submission joined with itself is given back, and so is
-   the pool, joined with either of the two. */
+   the verifying step, and answers nothing else; in ways k and j it accepts it. Where the second has no term and no message that the
+   first lacks, the pool is the first, byte for byte. So a submission joined with itself is given back, and so is the pool, where it is
+   the first and joined with either of the two. */
 uint32_t checker_join(const uint8_t *first, size_t first_len, const uint8_t *second, size_t second_len, uint8_t *page, size_t page_len);
 
 #ifdef __cplusplus
