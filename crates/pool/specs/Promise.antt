@@ -25,12 +25,13 @@ pub record IsPool (a b p : List ℕ) : Type 0 where
 -- A8's promises about every two submissions
 pub record JoinPromise : Type 0 where
   pub pooled : (a b : List ℕ) → Bytes a → Bytes b → (room n : ℕ) → join_answer a b room ≡ done n → IsPool a b (joined a b)
-  -- a second that has no term and no message that the first lacks adds nothing: the pool is the first
+  -- a second that has no term and no message that the first lacks adds nothing: the pool is the first, and is not refused, with page enough
   pub nothing_added : (a b : List ℕ) → Bytes a → Bytes b → Clear (rows1to5 a) → Clear (rows1to5 b) → ((t : Term) → Lists b t → Lists a t) →
-      ((t : Term) → InKnowledge b t → InKnowledge a t) → joined a b ≡ a
+      ((t : Term) → InKnowledge b t → InKnowledge a t) →
+      (joined a b ≡ a) × ((room : ℕ) → length a ≤ room → join_answer a b room ≡ done (length a))
   -- so a pool that is joined with either of the two once more stays as it is,
-  pub again : (a b : List ℕ) → Bytes a → Bytes b → (room n : ℕ) → join_answer a b room ≡ done n →
-      (joined (joined a b) a ≡ joined a b) × (joined (joined a b) b ≡ joined a b)
-  -- and joining with itself gives the first's bytes, and is not refused, with page enough
-  pub itself : (a : List ℕ) → Bytes a → Clear (rows1to5 a) → joined a a ≡ a
-  pub itself_done : (a : List ℕ) → Bytes a → Clear (rows1to5 a) → (room : ℕ) → length a ≤ room → join_answer a a room ≡ done (length a)
+  pub again : (a b : List ℕ) → Bytes a → Bytes b → (room n : ℕ) → join_answer a b room ≡ done n → (c : List ℕ) → (c ≡ a) ⊎ (c ≡ b) →
+      (joined (joined a b) c ≡ joined a b) × ((sheet : ℕ) → n ≤ sheet → join_answer (joined a b) c sheet ≡ done n)
+  -- and joining with itself gives the first's bytes
+  pub itself : (a : List ℕ) → Bytes a → Clear (rows1to5 a) →
+      (joined a a ≡ a) × ((room : ℕ) → length a ≤ room → join_answer a a room ≡ done (length a))

@@ -21,7 +21,7 @@ use Rattle.submission.proofs.Theory.ReadingRows.{first_two}
 use Rattle.form.specs.{Write.write_rows, Write.ReadsAs, Computed.write_answer, Calls.FormWritten}
 use Rattle.form.proofs.Theory.{WriteAnswer.write_exact, RoundTrip.form_promise, RoundTrip.body_length}
 use Rattle.pool.specs.{Pool.joined, Pool.join_rows, Computed.join_answer, Calls.PoolWritten, Promise.IsPool}
-use Rattle.pool.proofs.Theory.{JoinAnswer.join_exact, PoolPromise.join_promise}
+use Rattle.pool.proofs.Theory.{JoinAnswer.join_exact, JoinAnswer.join_done, PoolBytes.pool_bytes, PoolPromise.join_promise}
 use Rattle.inverse.specs.{Inverse.inverses_rows, Inverse.InverseListed, Computed.inverses_of, Calls.InversesWritten}
 use Rattle.inverse.proofs.Theory.InversesAnswer.{inverses_exact, inverses_promise}
 use Rattle.deduction.specs.{Deduce.deducible_rows, Computed.deducible_answer}
@@ -319,12 +319,21 @@ module _ (a b page page' : List ℕ) (r : Result ℕ Refusal) (bytes_a : Bytes a
     pub join_keeps : PoolKeeps a b (take n page')
     join_keeps = subst (PoolKeeps a b) (sym join_stands.0) (pooled_promise a b bytes_a bytes_b (length page) n joined_so)
 
+-- and one that joins a pool with either of the two again, with page enough, gives the pool
+pub join_again : (a b c page page' : List ℕ) (r : Result ℕ Refusal) → Bytes a → Bytes b → (room n : ℕ) → join_answer a b room ≡ done n → (c ≡ a) ⊎ (c ≡ b) →
+    n ≤ length page → PoolWritten (joined a b) c page r page' → (r ≡ Ok n) × (take n page' ≡ joined a b)
+join_again a b c page page' r x y room n e o l call =
+    let (same, taken) = join_promise.again a b x y room n e c o in
+    let z : Bytes c = ⊎_elim (λ f. subst Bytes (sym f) x) (λ f. subst Bytes (sym f) y) o in
+    let d = (returned r n call.answer).1 (taken (length page) l) in
+    (d, (join_stands (joined a b) c page page' r (pool_bytes (join_done a b room x y n e).0) z call n d).0 ∙ same)
+
 -- and one that joins a submission with itself, with page enough, gives its bytes
 pub join_itself : (a page page' : List ℕ) (r : Result ℕ Refusal) → Bytes a → Clear (rows1to5 a) → length a ≤ length page → PoolWritten a a page r page' →
     (r ≡ Ok (length a)) × (take (length a) page' ≡ a)
 join_itself a page page' r bytes clear l call =
-    let e = (returned r (length a) call.answer).1 (join_promise.itself_done a bytes clear (length page) l) in
-    (e, (join_stands a a page page' r bytes bytes call (length a) e).0 ∙ join_promise.itself a bytes clear)
+    let e = (returned r (length a) call.answer).1 ((join_promise.itself a bytes clear).1 (length page) l) in
+    (e, (join_stands a a page page' r bytes bytes call (length a) e).0 ∙ (join_promise.itself a bytes clear).0)
 
 -- ---- a call of `inverses` on s and page that returned r and left page'
 module _ (s page page' : List ℕ) (r : Result ℕ Refusal) (bytes : Bytes s) (call : InversesWritten s page r page') where

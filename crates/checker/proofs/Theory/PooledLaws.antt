@@ -16,7 +16,7 @@ use Rattle.submission.proofs.Theory.{ListedTerms.Claimed, ListedTerms.verifying_
 use Rattle.form.proofs.Theory.SameBodies.{same_byte, same_field}
 use Rattle.derivation.specs.Step.{rule, first_premise, second_premise, concluded, Premise, StepFits, guess_counts, Known}
 use Rattle.derivation.proofs.Theory.{LargerTables.fits_over, StepMeaning.second_listed}
-use Rattle.pool.specs.{Pool.pool as pooled_bodies, Pool.joined, Pool.pool_number, Promise.IsPool}
+use Rattle.pool.specs.{Pool.pool, Pool.joined, Pool.pool_number, Promise.IsPool}
 use Rattle.pool.proofs.Theory.{JoinAnswer.Joinable, JoinAnswer.join_done, PoolBodies.count_is, PoolPassed.claim_byte, PoolPassed.guess_same, PoolPassed.is_pool, PoolBytes.pool_bytes}
 use Rattle.deduction.specs.Computed.{deducible_answer}
 use Rattle.deduction.proofs.Theory.{DeducibleAnswer.asked_iff, DeducibleAnswer.yes_exact, Exactness.deducible_trans}
@@ -32,8 +32,8 @@ module _ {a b : List ℕ} (h : Joinable a b) (whole : WellFormed a) where
   abbrev p : List ℕ
   p = joined a b
 
-  pool : IsPool a b p
-  pool = is_pool h
+  whole_pool : IsPool a b p
+  whole_pool = is_pool h
 
   claim : Claimed a
   claim = claim_facts h.first
@@ -43,8 +43,8 @@ module _ {a b : List ℕ} (h : Joinable a b) (whole : WellFormed a) where
   same_steps = count_is h 2 (omega arith)
 
   same_derivation : body_at p 2 ≡ body_at a 2
-  unfolding pooled_bodies
-  same_derivation = ap (λ (d : Bodies). d.derivation) pool.reads.bodies
+  unfolding pool
+  same_derivation = ap (λ (d : Bodies). d.derivation) whole_pool.reads.bodies
 
   module _ (i : ℕ) (l : i < steps a) where
     same_rule : rule_at p i ≡ rule_at a i
@@ -76,10 +76,10 @@ module _ {a b : List ℕ} (h : Joinable a b) (whole : WellFormed a) where
 
   -- ---- their terms
   first_term : (n : ℕ) → n < terms a → term p n ≡ term a n
-  first_term n l = (pool.first_number n l).1
+  first_term n l = (whole_pool.first_number n l).1
 
   more_known : (t : Term) → InKnowledge a t → InKnowledge p t
-  more_known t k = (pool.knowledge_of_both t).1 (inl k)
+  more_known t k = (whole_pool.knowledge_of_both t).1 (inl k)
 
   guess_term : term p (guess p) ≡ term a (guess a)
   guess_term = ap (term p) (guess_same h) ∙ first_term (guess a) claim.guess_below
@@ -106,10 +106,10 @@ module _ {a b : List ℕ} (h : Joinable a b) (whole : WellFormed a) where
     premise_iff x = (⊎_elim (λ e. inl (e ∙ first_is)) (λ e. inr (e ∙ second_is)), ⊎_elim (λ e. inl (e ∙ sym first_is)) (λ e. inr (e ∙ sym second_is)))
 
     step_fits : StepFits p i
-    step_fits = rw (same_rule i l, same_p i l, same_q i l, same_conclusion i l) (fits_over pool.first_number _ _ _ _ right)
+    step_fits = rw (same_rule i l, same_p i l, same_q i l, same_conclusion i l) (fits_over whole_pool.first_number _ _ _ _ right)
 
   pool_whole : WellFormed p
-  pool_whole = record { read = pool.passes; shaped = λ i l. step_fits i (omega (arith, same_steps)) }
+  pool_whole = record { read = whole_pool.passes; shaped = λ i l. step_fits i (omega (arith, same_steps)) }
 
   known_over : (i : ℕ) → i ≤ steps a → (x : Term) → Known a i x → Known p i x
   known_over i l x (inl k) = inl (more_known x k)
@@ -211,7 +211,7 @@ module _ {a b : List ℕ} (h : Joinable a b) (whole : WellFormed a) where
 
     done_or_reachable : (c : Claims) → claims a ≡ c → (check_answer p room ≡ done n) ⊎ (check_answer p room ≡ refused 8 (verifying a))
     done_or_reachable verifier k =
-        let c = claimed_clear p (pool_bytes h) pool.passes in
+        let c = claimed_clear p (pool_bytes h) whole_pool.passes in
         ⊎_elim
         (λ e. inr (reached_refused k (λ x m. (says_reachable c pool_whole.shaped (same_claims ∙ k)).0 e x ((premises_iff k x).1 m))))
         (λ e. inl (hidden_done k ((reachable_iff c pool_whole.shaped (same_claims ∙ k)).0 e)))

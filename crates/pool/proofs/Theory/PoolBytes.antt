@@ -80,8 +80,8 @@ module _ (a b : List ℕ) (z : Listed b) (low : (j : ℕ) → j < terms b → po
   operands_bytes j l (atomic κ) f = (z.bytes _, (z.bytes _, tt))
   operands_bytes j l (compound f) g = (low _ (let h = g.0 in omega arith), (second_bytes j l (second f) g.1, tt))
 
-  record_bytes : (j : ℕ) → j < terms b → AllBytes (renumbered a b j)
-  record_bytes j l = let g = z.good j l in (z.bytes _, rw g.has (operands_bytes j l g.shape g.fits))
+  renumbered_bytes : (j : ℕ) → j < terms b → AllBytes (renumbered a b j)
+  renumbered_bytes j l = let g = z.good j l in (z.bytes _, rw g.has (operands_bytes j l g.shape g.fits))
 
   terms_bytes : (n : ℕ) → n ≤ terms b → AllBytes (flat_map (renumbered a b) (missing a b n))
   terms_bytes zero l = rw (missing_none a b) tt
@@ -90,7 +90,7 @@ module _ (a b : List ℕ) (z : Listed b) (low : (j : ℕ) → j < terms b → po
       (all_append _ _ (terms_bytes n (omega arith)) (go (is_missing a b n)))
     where
       go : (t : Bool) → AllBytes (flat_map (renumbered a b) (cond t (n ∷ []) []))
-      go true = all_append (renumbered a b n) [] (record_bytes n l) tt
+      go true = all_append (renumbered a b n) [] (renumbered_bytes n l) tt
       go false = tt
 
   entries_bytes : (n : ℕ) → n ≤ entries b → AllBytes (new_entries a b n)

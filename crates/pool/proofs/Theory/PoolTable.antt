@@ -55,7 +55,7 @@ module _ {a b : List ℕ} (h : Joinable a b) where
         (λ (y : Missing a b k). let r = rank_less a b k j u y.absent in omega (arith, y.is, z.is))
         (in_or_missing a b k)
 
-  -- each of the others terms has its shape under its number in the pool
+  -- each of the other's terms has its shape under its number in the pool
   number_shape : (j : ℕ) → j < terms b → shape_of (kind_at p (m j)) ≡ shape_of (kind_at b j)
   number_shape j l = ⊎_elim
       (λ (f : InFirst a b j).
