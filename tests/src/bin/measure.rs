@@ -37,6 +37,7 @@ const GROWING: [usize; 5] = [25, 50, 100, 200, 250];
 
 /// The kinds of keys that have an inverse.
 const KEYS: [Kind; 2] = [Kind::Public, Kind::Private];
+const ATOMS: [Kind; 3] = [Kind::Plain, Kind::Public, Kind::Private];
 
 /// An example of about twenty terms.
 const TYPICAL: &str = "003-needham-schroeder-kas";
@@ -63,6 +64,15 @@ fn main() {
     measure_other_names("typical", &examples::submission(TYPICAL));
     measure_other_names("largest accepted", &shapes::largest().submission());
     measure_search();
+    measure_written();
+    measure_deductions();
+    for name in ["M1", TYPICAL] {
+        measure_program(name, &verdict);
+    }
+}
+
+/// What writes something else than a program: a submission, the inverses, a derivation, a pool.
+fn measure_written() {
     measure_write_again("M1", &examples::submission("M1"));
     measure_write_again("typical", &examples::submission(TYPICAL));
     measure_write_again("largest", &shapes::largest().submission());
@@ -73,6 +83,12 @@ fn main() {
     for (title, submission, program) in sent_programs() {
         measure_read_back(&title, &submission, &program);
     }
+    for (title, first, second) in pairs() {
+        measure_join(&title, &first, &second);
+    }
+}
+
+fn measure_deductions() {
     for (title, submission) in submissions() {
         if let Some(term) = farthest(&submission) {
             measure_deduction(&title, &submission, term);
@@ -83,12 +99,6 @@ fn main() {
         if usize::from(last) + 1 == Body::Terms.most() {
             measure_deduction(&format!("{title}, no"), &submission, last);
         }
-    }
-    for (title, first, second) in pairs() {
-        measure_join(&title, &first, &second);
-    }
-    for name in ["M1", TYPICAL] {
-        measure_program(name, &verdict);
     }
 }
 
@@ -113,7 +123,7 @@ fn submissions() -> Vec<(String, Vec<u8>)> {
         ),
         (
             "250 atoms with the longest lookup".to_string(),
-            shapes::atoms(&[Kind::Plain], Naming::LongestLookup).submission(),
+            shapes::atoms(&ATOMS, Naming::LongestLookup).submission(),
         ),
         (
             "247 keys with one low byte, no pair".to_string(),
@@ -205,7 +215,7 @@ fn key_tables() -> Vec<(&'static str, Vec<u8>)> {
         ("125 pairs of keys", atoms(&KEYS, Naming::BothBytes)),
         ("125 pairs of keys with one low byte", atoms(&KEYS, Naming::OneLowByte)),
         ("250 public keys with one low byte", atoms(&[Kind::Public], Naming::OneLowByte)),
-        ("250 public keys with the longest lookup", atoms(&[Kind::Public], Naming::LongestLookup)),
+        ("125 pairs of keys with the longest lookup", atoms(&KEYS, Naming::LongestLookup)),
         (
             "247 keys with one low byte, no pair",
             shapes::keys_beside(&KEYS, Naming::OneLowByte).submission(),
@@ -257,12 +267,12 @@ fn pairs() -> Vec<(String, Vec<u8>, Vec<u8>)> {
     let mut add = |title: String, first: &Bodies, second: &Bodies| {
         pairs.push((title, first.submission(), second.submission()));
     };
-    for (word, naming) in [
-        ("atoms", Naming::BothBytes),
-        ("atoms with one low byte", Naming::OneLowByte),
-        ("atoms with the longest lookup", Naming::LongestLookup),
+    for (word, kinds, naming) in [
+        ("atoms", &[Kind::Plain][..], Naming::BothBytes),
+        ("atoms with one low byte", &[Kind::Plain], Naming::OneLowByte),
+        ("atoms with the longest lookup", &ATOMS, Naming::LongestLookup),
     ] {
-        let atoms = joinable(&shapes::atoms(&[Kind::Plain], naming));
+        let atoms = joinable(&shapes::atoms(kinds, naming));
         let [front, back] = [&atoms.terms[..most / 2], &atoms.terms[most / 2..]]
             .map(|terms| Bodies { terms: terms.to_vec(), ..atoms.clone() });
         let hashed = joinable(&shapes::hashed(naming));

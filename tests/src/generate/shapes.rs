@@ -114,7 +114,7 @@ pub fn largest_deducible(way: Way, is_entry: bool) -> Bodies {
 }
 
 /// How atoms are named: so that both bytes of their names differ, or the high byte only; or so that the
-/// checker, where it looks for an equal record, looks at as many others as it can, which was found by trying.
+/// checker, where it looks for an equal record, looks at many others in both of the chains in which that is.
 #[derive(Clone, Copy)]
 pub enum Naming {
     BothBytes,
@@ -129,20 +129,40 @@ impl Naming {
         match self {
             Naming::BothBytes => u16::from_be_bytes([index.wrapping_mul(37), index]),
             Naming::OneLowByte => u16::from_be_bytes([index, 5]),
-            Naming::LongestLookup => u16::from_be_bytes([index.wrapping_mul(195), index]),
+            Naming::LongestLookup => in_chains(cell(index)),
         }
     }
 }
 
-/// Atoms alone, up to the limit on terms: all of the first kind, then as many of the next, with the
-/// same names. No step, so check 5 refuses it.
+/// The name x, y of an atom that is in chains a and b, where a = 21x + y and b = 42x + y, modulo 256. 61 is the inverse of 21.
+fn in_chains((a, b): (u8, u8)) -> u16 {
+    let x = b.wrapping_sub(a).wrapping_mul(61);
+    let y = a.wrapping_mul(2).wrapping_sub(b);
+    u16::from_be_bytes([x, y])
+}
+
+/// The cells of a grid one after the other, so that as many as there are make a square or nearly one.
+fn cell(index: u8) -> (u8, u8) {
+    let side = index.isqrt();
+    let beyond = index - side * side;
+    if beyond <= side {
+        (side, beyond)
+    } else {
+        (beyond - side - 1, side)
+    }
+}
+
+/// Atoms alone, up to the limit on terms: all of the first kind, then as many of the next or nearly so, with
+/// the same names. No step, so check 5 refuses it.
 pub fn atoms(kinds: &[Kind], naming: Naming) -> Bodies {
     let mut table = Table::default();
+    let most = Body::Terms.most();
     for &kind in kinds {
-        for index in 0..Body::Terms.most() / kinds.len() {
+        for index in 0..most.div_ceil(kinds.len()) {
             table.atom(kind, naming.name(index));
         }
     }
+    table.records.truncate(most);
     Bodies { terms: table.records, ..Bodies::default() }
 }
 

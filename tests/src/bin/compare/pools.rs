@@ -101,11 +101,14 @@ fn kind(bodies: &Bodies, term: usize) -> Kind {
 /// A row of pools: its title, and whether it counts one.
 type PoolRow = (&'static str, fn(&Pool) -> bool);
 
-const POOLS: [PoolRow; 16] = [
+const POOLS: [PoolRow; 17] = [
     ("the two alike", |pool| pool.is_same()),
-    ("none of both", |pool| pool.found() == 0),
-    ("some of both", |pool| {
-        pool.found() > 0 && pool.adds_terms() && pool.found() < pool.second.terms.len()
+    ("none found", |pool| pool.found() == 0),
+    ("one in four or fewer found", |pool| {
+        pool.found() > 0 && 4 * pool.found() <= pool.second.terms.len()
+    }),
+    ("three in four or more found", |pool| {
+        pool.adds_terms() && 4 * pool.found() >= 3 * pool.second.terms.len()
     }),
     ("all found", |pool| !pool.adds_terms() && !pool.is_same()),
     ("all found, K more", |pool| !pool.adds_terms() && pool.adds_knowledge()),
