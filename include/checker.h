@@ -115,8 +115,8 @@ uint32_t checker_deduction(const uint8_t *sub, size_t sub_len, uint8_t term, uin
      - the first's derivation and claim. Those of the second are looked at by checks 1 to 5 only.
 
    The answer is the count of bytes written, which are the first of the page; the others are as before. A refusal is 1 to 5 for the first
-   submission, then 1 to 5 for the second, and doesn't say which of the two is meant; then 20 for a pool above 250 terms or above 64
-   entries, then 11, with the pool's length as place. It leaves the page as it was. A page of 1,346 bytes is never too short. The two
+   submission, then 1 to 5 for the second, and doesn't say which of the two is meant; then 20, at 0, for a pool above 250 terms or
+   above 64 entries, then 11, with the pool's length as place. It leaves the page as it was. A page of 1,346 bytes is never too short. The two
    submissions may be one buffer.
 
    The pool passes checks 1 to 5. Its terms are exactly those of the two, its knowledge is exactly their messages, and each term of the

@@ -57,7 +57,7 @@ impl ByteChains {
     }
 
     // The latest number that is chained by y and for which the test holds. A loop: an iterator along the chain would be a struct with a ghost field
-    // and laws of its `next`, for two walks of three lines, this and that of `fire` in the crate deduction.
+    // and laws of its `next`, for three walks of a few lines, this, that of `find_in_both` and that of `fire` in the crate deduction.
     pub fn find<F: Fn(u8) -> bool>(&self, y: u8, test: F) -> Option<u8>
         requires chaining { (c : ℕ → ℕ) × (i : ℕ) × Chaining c i self.now.before self.now.latest }
         requires callable { F.IsAlwaysCallable test }

@@ -7,8 +7,7 @@ use Prim.Native.Nat.{ℕ, ◌≤◌}
 use borrow.Author.Tests.{ltb-false, le-ltb}
 use lib.{ListN.length, Dec.ltb}
 use Rattle.base.specs.{Words.Bytes, Answer.Answer, Answer.done, Answer.Answers, Computed.fails_if, Computed.check_room}
-use Rattle.base.proofs.{Says.Says, Says.says_ltb, Says.says_or, Says.denies, RefusalLaws.tells_if, RefusalLaws.tells_room, RefusalLaws.tells_then}
-use Rattle.base.proofs.{RefusalLaws.answers_iff, AnswerLaws.if_passes, AnswerLaws.then_passes, AnswerLaws.answered_done}
+use Rattle.base.proofs.{Says.Says, Says.says_ltb, Says.says_or, Says.denies, RefusalLaws.tells_if, RefusalLaws.tells_room, RefusalLaws.tells_then, RefusalLaws.answers_iff, AnswerLaws.if_passes, AnswerLaws.then_passes, AnswerLaws.answered_done}
 use Rattle.submission.specs.{Record.most, Body.records, Code.SubmissionRead, Computed.checks1to5}
 use Rattle.submission.proofs.Theory.ReadingRows.{tells_1_to_5}
 use Rattle.pool.specs.{Pool.pool, Pool.joined, Pool.Overfull, Pool.join_rows, Computed.overfull, Computed.checks_of_pool, Computed.join_answer}

@@ -8,8 +8,7 @@ use native.Mathlib.Omega.{arith}
 use lib.ListN.{length, get_or, length-append}
 use Rattle.base.proofs.{Order.lt_or_ge, Says.each_of_four}
 use Rattle.term.specs.{Term.Shape, Term.atomic, Term.compound, Number.shape_of}
-use Rattle.submission.specs.{Record.count, Record.width, Record.least, Record.most, Record.terms, Record.entries, Record.steps, Record.kind_at, Record.x_at, Record.y_at}
-use Rattle.submission.specs.{Body.body, Body.records, Body.body_at, Code.SubmissionRead}
+use Rattle.submission.specs.{Record.count, Record.width, Record.least, Record.most, Record.terms, Record.entries, Record.steps, Record.kind_at, Record.x_at, Record.y_at, Body.body, Body.records, Body.body_at, Code.SubmissionRead}
 use Rattle.submission.proofs.Theory.{ListedTerms.claim_facts, ReadingRows.rows_clear, ReadingRows.first_two, ReadingRows.one_claim}
 use Rattle.form.specs.{Write.ReadsAs, Code.Writable}
 use Rattle.form.proofs.Theory.{RoundTrip.counts, RoundTrip.counted, RoundTrip.whole_written, RoundTrip.reads_as, RoundTrip.body_length, WriteAnswer.written_writable}

@@ -13,9 +13,8 @@ use Rattle.base.specs.Words.{Bytes, not, grow, listed}
 use Rattle.term.specs.Term.{Second, absent, anything, key_for, second, unary, Shape, atomic, compound}
 use Rattle.submission.specs.Record.{letter, most, start_of, start, terms, entries, x_at, y_at, entry_at}
 use Rattle.submission.specs.{Body.records, Body.contents_entry, Body.contents, Body.body_at, Body.submission_of, Check.HasSecond, Check.Shaped}
-use Rattle.submission.proofs.Theory.{ListedTerms.Listed, ReadingRows.counts_within}
+use Rattle.submission.proofs.Theory.{ListedTerms.Listed, ReadingRows.counts_within, ListedTerms.claim_facts}
 use Rattle.form.proofs.Theory.RoundTrip.{counts}
-use Rattle.submission.proofs.Theory.{ListedTerms.claim_facts}
 use Rattle.pool.specs.{Pool.is_missing, Pool.missing, Pool.pool_number, Pool.operands, Pool.renumbered, Pool.is_entry, Pool.new_entries, Pool.pool, Pool.joined}
 use Rattle.pool.proofs.Theory.{PoolNumbers.missing_none, PoolNumbers.missing_more, JoinAnswer.Joinable, PoolBodies.pool_reads, PoolRecords.number_below}
 

@@ -14,9 +14,7 @@ use Rattle.submission.specs.Code.{SubmissionRead}
 use Rattle.form.proofs.Theory.RoundTrip.{body_byte}
 use Rattle.submission.proofs.Theory.{ListedTerms.claim_facts, ReadingRows.rows_clear}
 use Rattle.pool.specs.Pool.{pool_number, is_entry, new_entries, pool, joined}
-use Rattle.pool.proofs.Theory.{JoinAnswer.Joinable, PoolLists.kept_place, PoolLists.kept_at, PoolBodies.own_length}
-use Rattle.pool.proofs.Theory.{PoolBodies.pool_reads, PoolBodies.count_is}
-use Rattle.pool.proofs.Theory.{PoolRecords.term_count, PoolTable.first_term, PoolTable.second_term}
+use Rattle.pool.proofs.Theory.{JoinAnswer.Joinable, PoolLists.kept_place, PoolLists.kept_at, PoolBodies.own_length, PoolBodies.pool_reads, PoolBodies.count_is, PoolRecords.term_count, PoolTable.first_term, PoolTable.second_term}
 
 pub says_entry : (a : List ℕ) (n : ℕ) → Says (is_entry a n) ((r : ℕ) × (r < entries a) × (entry_at a r ≡ n))
 says_entry a n = says_any (λ r. eqb (entry_at a r) n) (entries a) (λ r l. says_eqb (entry_at a r) n)

@@ -7,15 +7,12 @@ use native.Mathlib.Omega.{arith}
 use Rattle.base.specs.{Words.byte, Answer.Clear}
 use Rattle.term.specs.{Term.asymmetric, Term.is_key_for, Number.shape_of}
 use Rattle.submission.specs.{Record.count, Record.start, Record.terms, Record.kind_at, Record.guess, Record.verifying, Record.companion, Body.Bodies, Body.body_at}
-use Rattle.submission.specs.Check.{way_of, the_guess, its_inverse, Claims, verifier, derived, Range, step_number, term_number, zero_only, step_or_knowledge, row, InRange}
-use Rattle.submission.specs.Check.{GuessFits, FitsWay, ClaimFits, rows1to5}
-use Rattle.submission.proofs.Theory.{ListedTerms.Claimed, ReadingRows.first_two, ReadingRows.one_claim}
+use Rattle.submission.specs.Check.{way_of, the_guess, its_inverse, Claims, verifier, derived, Range, step_number, term_number, zero_only, step_or_knowledge, row, InRange, GuessFits, FitsWay, ClaimFits, rows1to5}
+use Rattle.submission.proofs.Theory.{ListedTerms.Claimed, ReadingRows.first_two, ReadingRows.one_claim, ListedTerms.claim_facts, ReadingRows.rows_clear}
 use Rattle.form.proofs.Theory.SameBodies.{same_byte, same_first}
-use Rattle.submission.proofs.Theory.{ListedTerms.claim_facts, ReadingRows.rows_clear}
 use Rattle.pool.specs.Pool.{pool, joined}
 use Rattle.pool.specs.Promise.{IsPool}
-use Rattle.pool.proofs.Theory.{JoinAnswer.Joinable, PoolBodies.pool_reads, PoolBodies.count_is, PoolRecords.term_count}
-use Rattle.pool.proofs.Theory.{PoolTable.first_kind, PoolTable.first_term, PoolTable.second_term, PoolTable.terms_of_both, PoolTable.term_good, PoolKnowledge.entry_good}
+use Rattle.pool.proofs.Theory.{JoinAnswer.Joinable, PoolBodies.pool_reads, PoolBodies.count_is, PoolRecords.term_count, PoolTable.first_kind, PoolTable.first_term, PoolTable.second_term, PoolTable.terms_of_both, PoolTable.term_good, PoolKnowledge.entry_good}
 use Rattle.pool.proofs.Theory.{PoolKnowledge.knowledge_of_both}
 
 module _ {a b : List ℕ} (h : Joinable a b) where

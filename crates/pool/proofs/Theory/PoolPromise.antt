@@ -10,12 +10,10 @@ use Rattle.base.specs.{Words.Bytes, Answer.done, Answer.Clear}
 use Rattle.base.proofs.{Says.denies, RefusalLaws.passes_iff}
 use Rattle.term.specs.Term.{Term}
 use Rattle.submission.specs.{Record.terms, Record.entries, Record.entry_at, Record.term, Record.InKnowledge, Body.bodies_of, Body.body_at, Body.submission_of, Check.rows1to5, Code.SubmissionRead}
-use Rattle.submission.proofs.Theory.{ListedTerms.Listed, ReadingRows.tells_1_to_5, ReadingRows.first_two}
+use Rattle.submission.proofs.Theory.{ListedTerms.Listed, ReadingRows.tells_1_to_5, ReadingRows.first_two, ListedTerms.claim_facts, ReadingRows.rows_clear}
 use Rattle.form.proofs.Theory.RoundTrip.{form_promise}
-use Rattle.submission.proofs.Theory.{ListedTerms.claim_facts, ReadingRows.rows_clear}
 use Rattle.pool.specs.{Pool.is_missing, Pool.missing, Pool.pool_number, Pool.is_entry, Pool.new_entries, Pool.pool, Pool.joined, Pool.Overfull, Computed.overfull, Computed.join_answer, Promise.Lists, Promise.JoinPromise}
-use Rattle.pool.proofs.Theory.{JoinAnswer.Joinable, JoinAnswer.says_overfull, JoinAnswer.join_done, JoinAnswer.done_joinable, PoolLists.kept_none, PoolNumbers.InFirst}
-use Rattle.pool.proofs.Theory.{PoolNumbers.Missing, PoolNumbers.in_or_missing, PoolNumbers.number_same}
+use Rattle.pool.proofs.Theory.{JoinAnswer.Joinable, JoinAnswer.says_overfull, JoinAnswer.join_done, JoinAnswer.done_joinable, PoolLists.kept_none, PoolNumbers.InFirst, PoolNumbers.Missing, PoolNumbers.in_or_missing, PoolNumbers.number_same}
 use Rattle.pool.proofs.Theory.{PoolBodies.pool_term_count, PoolBodies.pool_entry_count, PoolKnowledge.says_entry, PoolPassed.is_pool, PoolBytes.pool_bytes}
 
 read : {a : List ℕ} → Bytes a → Clear (rows1to5 a) → SubmissionRead a

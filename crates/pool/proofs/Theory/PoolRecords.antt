@@ -13,8 +13,7 @@ use Rattle.base.proofs.Order.{lt_or_ge}
 use Rattle.submission.specs.{Record.start, Record.terms, Body.Bodies, Body.body_at}
 use Rattle.form.proofs.Theory.RoundTrip.{body_byte}
 use Rattle.pool.specs.Pool.{is_missing, missing, pool_number, renumbered, pool, joined}
-use Rattle.pool.proofs.Theory.{JoinAnswer.Joinable, PoolLists.kept_place, PoolLists.kept_at, PoolLists.threes_at}
-use Rattle.pool.proofs.Theory.{PoolNumbers.rank, PoolNumbers.InFirst, PoolNumbers.Missing, PoolNumbers.in_or_missing, PoolNumbers.rank_less}
+use Rattle.pool.proofs.Theory.{JoinAnswer.Joinable, PoolLists.kept_place, PoolLists.kept_at, PoolLists.threes_at, PoolNumbers.rank, PoolNumbers.InFirst, PoolNumbers.Missing, PoolNumbers.in_or_missing, PoolNumbers.rank_less}
 use Rattle.pool.proofs.Theory.MappedRecord.{record_bytes}
 use Rattle.pool.proofs.Theory.PoolBodies.{own_length, renumbered_length, pool_reads, count_is}
 

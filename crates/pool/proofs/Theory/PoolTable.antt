@@ -10,8 +10,7 @@ use Rattle.term.specs.Term.{second, unary, Shape, atomic, compound, shape, Term,
 use Rattle.term.specs.{Number.shape_of, Code.Below}
 use Rattle.term.proofs.Table.{decoded_reads}
 use Rattle.submission.specs.{Record.terms, Record.kind_at, Record.x_at, Record.y_at, Record.record_at, Record.term, Check.Shaped, Check.BadTerm}
-use Rattle.submission.proofs.Theory.{ListedTerms.Listed, ListedNumbers.listed_shape}
-use Rattle.submission.proofs.Theory.{ListedTerms.claim_facts}
+use Rattle.submission.proofs.Theory.{ListedTerms.Listed, ListedNumbers.listed_shape, ListedTerms.claim_facts}
 use Rattle.pool.specs.Pool.{pool_number, operands, joined}
 use Rattle.pool.specs.Promise.{Lists}
 use Rattle.pool.proofs.Theory.{JoinAnswer.Joinable, PoolNumbers.InFirst, PoolNumbers.Missing, PoolNumbers.in_or_missing, PoolNumbers.rank_less}
