@@ -14,15 +14,15 @@ use Rattle.std.specs.List.{list_any}
 use Rattle.base.specs.declared.refusal.Refusal.{Refusal}
 use Rattle.base.specs.declared.writer.Writer.{Writer}
 use Rattle.base.specs.{Words.byte, Words.grow, Code.Wrote, Code.check_of, Computed.fails_if}
-use Rattle.base.proofs.{AnswerLaws.fails_not_passes, AnswerLaws.if_passes, Order.lt_or_ge, Says.Says, Says.says_eqb, Says.says_or, Says.same_test, Says.denies, PutLaws.puts_length, PutLaws.wrote_none, PutLaws.wrote_then, RefusalLaws.passes_iff}
+use Rattle.base.proofs.{AnswerLaws.fails_not_passes, AnswerLaws.if_passes, Order.lt_or_ge, Says.Says, Says.says_eqb, Says.says_or, Says.same_test, Says.denies, PutLaws.puts_length, PutLaws.wrote_none, PutLaws.wrote_then}
 use Rattle.submission.specs.{Record.terms, Record.entries, Record.entry_at, Body.body_at, Code.TableRead}
-use Rattle.submission.proofs.Theory.{ListedTerms.facts, ReadingRows.tells_1_to_4}
-use Rattle.form.proofs.Theory.RoundTrip.{body_length, body_byte}
+use Rattle.submission.proofs.Theory.{ListedTerms.facts}
+use Rattle.form.proofs.Theory.RoundTrip.{body_byte}
 use Rattle.pool.specs.declared.numbers.Numbers.{Numbers}
 use Rattle.pool.specs.Pool.{pool_number, is_entry, new_entries}
 use Rattle.pool.specs.Code.{entries_to, check_most, Noted}
 use Rattle.pool.proofs.Theory.{PoolLists.kept_more, PoolLists.kept_rises, PoolKnowledge.says_entry}
-use Rattle.pool.proofs.TermReturns.{above_most}
+use Rattle.pool.proofs.{TermReturns.above_most, PutLaws.table_length}
 
 -- ---- whether a number is among the first's entries
 says_member : (n : ℕ) (l : List ℕ) → Says (list_any (λ y. eqb y n) l) ((k : ℕ) × (k < length l) × (byte l k ≡ n))
@@ -37,7 +37,7 @@ says_member n (x ∷ l) =
 
 module _ {a : List ℕ} (z : TableRead a) where
   pub own_entries : length (body_at a 1) ≡ entries a
-  own_entries = let c = (passes_iff (tells_1_to_4 a z.bytes)).0 z.passed in omega (arith, body_length a z.bytes (c.0, (c.1.0, tt)) 1 (omega arith))
+  own_entries = omega (arith, table_length z 1 (omega arith))
 
   pub entry_test : {known : List ℕ} {t : Bool} (n : ℕ) → known ≡ body_at a 1 → t ≡ list_any (λ y. eqb y n) known → t ≡ is_entry a n
   entry_test n e f =

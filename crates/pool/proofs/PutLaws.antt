@@ -2,7 +2,7 @@
 use mathlib.Core.Path.{◌≡◌, refl, sym, ap, ◌∙◌}
 use mathlib.Core.Bool.{Bool, true, false, cond}
 use mathlib.Core.List.{List, [], ◌∷◌, ◌++◌, append-nil}
-use Prim.Native.Nat.{ℕ, ◌+◌, ◌≤◌, ◌<◌}
+use Prim.Native.Nat.{ℕ, ◌+◌, ◌*◌, ◌≤◌, ◌<◌}
 use native.Mathlib.Numerals.{add-one}
 use native.Mathlib.Omega.{arith}
 use lib.Dec.{ltb}
@@ -14,7 +14,7 @@ use Rattle.base.specs.declared.refusal.Refusal.{Refusal}
 use Rattle.base.specs.declared.writer.Writer.{Writer}
 use Rattle.base.specs.{Code.Wrote, Code.check_of, Computed.fails_if}
 use Rattle.base.proofs.{RefusalLaws.passes_iff, AnswerLaws.fails_not_passes, Says.says_ltb, PutLaws.wrote_none, PutLaws.wrote_then, PutLaws.wrote_out, PutLaws.puts_whole}
-use Rattle.submission.specs.{Record.most, Body.body_at, Code.TableRead}
+use Rattle.submission.specs.{Record.most, Record.count, Record.width, Body.body_at, Code.TableRead}
 use Rattle.submission.proofs.Theory.ReadingRows.{tells_1_to_4}
 use Rattle.form.proofs.Theory.RoundTrip.{body_length}
 use Rattle.pool.specs.declared.numbers.Numbers.{Numbers}
@@ -50,7 +50,10 @@ filled {y = y} e m f g p q l =
     (omega (arith, k, l, ap (λ (z : List ℕ). length (z ++ y)) g), h ∙ rw g)
 
 -- the pool's terms are no longer than the most are
+-- what passed checks 1 to 4 has whole bodies
+pub table_length : {a : List ℕ} → TableRead a → (i : ℕ) → i < 4 → length (body_at a i) ≡ width i * count a i
+table_length {a} z = let c = (passes_iff (tells_1_to_4 a z.bytes)).0 z.passed in body_length a z.bytes (c.0, (c.1.0, tt))
+
 pub terms_room : {a b : List ℕ} {n : ℕ} {numbers : Numbers} → TableRead a → Noted a b n numbers → length (body_at a 0 ++ missing_records a b n) ≤ 750
 terms_room {a} {b} {n} z p =
-    let c = (passes_iff (tells_1_to_4 a z.bytes)).0 z.passed in
-    omega (arith, length-append (body_at a 0) (missing_records a b n), p.next, p.few, body_length a z.bytes (c.0, (c.1.0, tt)) 0 (omega arith), threes_length (renumbered a b) (renumbered_length a b) (missing a b n))
+    omega (arith, length-append (body_at a 0) (missing_records a b n), p.next, p.few, table_length z 0 (omega arith), threes_length (renumbered a b) (renumbered_length a b) (missing a b n))
