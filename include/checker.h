@@ -123,8 +123,8 @@ uint32_t checker_deduction(const uint8_t *sub, size_t sub_len, uint8_t term, uin
    first keeps its number. A term deducible from either is deducible from the pool, under its number there. So a first submission that is
    accepted may become reachable: on a page that is long enough, checker_check accepts the pool with the same N, or refuses it with 8 at
    the verifying step, and answers nothing else; in ways k and j it accepts it. Where the second has no term and no message that the
-   first lacks, the pool is the first, byte for byte. So a submission joined with itself is given back, and so is the pool, where it is
-   the first and joined with either of the two. */
+   first lacks, and the page has room, the pool is written, and is the first, byte for byte. So a submission joined with itself is given
+   back, and so is a pool that is joined, as the first, with either of its two once more. */
 uint32_t checker_join(const uint8_t *first, size_t first_len, const uint8_t *second, size_t second_len, uint8_t *page, size_t page_len);
 
 #ifdef __cplusplus

@@ -7,5 +7,6 @@ pub mod examples;
 pub mod generate;
 pub mod notation;
 pub mod output;
+pub mod page;
 pub mod reference;
 pub mod tables;

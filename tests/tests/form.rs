@@ -1,8 +1,9 @@
 //! The reference's writing of submissions from the bodies of forms: M1's with something changed.
 
 use checker_tests::examples::submission;
+use checker_tests::page::called;
 use checker_tests::reference::contents::{self, BodyBytes};
-use checker_tests::reference::{check, code, write, Refusal, REFUSAL};
+use checker_tests::reference::{check, write, Refusal, REFUSAL};
 use checker_tests::tables::{Body, Reason, LONGEST_PROGRAM, LONGEST_SUBMISSION};
 
 const TERMS: [u8; 9] = [1, 0, 1, 1, 0, 2, 5, 0, 1];
@@ -12,16 +13,10 @@ const CLAIM: [u8; 4] = [1, 0, b'b', 0];
 
 const M1: BodyBytes = [&TERMS, &KNOWLEDGE, &DERIVATION, &CLAIM];
 
-const PAINT: u8 = 0xAA;
-
 /// What write answers on a page of this length, and the page's first bytes: those that it has to
 /// write, or none where it refuses. All the others are as before.
 fn written(bodies: BodyBytes, page: usize) -> (u32, Vec<u8>) {
-    let mut page = vec![PAINT; page];
-    let answer = write(bodies, &mut page);
-    let kept = page.split_off(answer.map_or(0, usize::from));
-    assert!(kept.iter().all(|&byte| byte == PAINT));
-    (code(answer), page)
+    called(page, usize::from, |page| write(bodies, page))
 }
 
 /// What write answers on a page on which every submission has room.

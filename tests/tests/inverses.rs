@@ -3,19 +3,14 @@
 use checker_tests::bodies::Bodies;
 use checker_tests::examples::submission;
 use checker_tests::generate::shapes::{self, Naming};
-use checker_tests::reference::{code, inverses, REFUSAL};
+use checker_tests::page::called;
+use checker_tests::reference::{inverses, REFUSAL};
 use checker_tests::tables::{Body, Kind};
-
-const PAINT: u8 = 0xAA;
 
 /// What inverses answers on a page of this length, and the page's first bytes: those that it has to
 /// write, or none where it refuses. All the others are as before.
 fn found(submission: &[u8], page: usize) -> (u32, Vec<u8>) {
-    let mut page = vec![PAINT; page];
-    let answer = inverses(submission, &mut page);
-    let kept = page.split_off(answer.map_or(0, usize::from));
-    assert!(kept.iter().all(|&byte| byte == PAINT));
-    (code(answer), page)
+    called(page, usize::from, |page| inverses(submission, page))
 }
 
 /// The bytes for these terms, with nothing known, no step and an empty claim.

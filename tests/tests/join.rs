@@ -3,21 +3,16 @@
 use checker_tests::bodies::Bodies;
 use checker_tests::examples::submission;
 use checker_tests::generate::Source;
+use checker_tests::page::called;
 use checker_tests::reference::{
-    code, join, numbers_in_pool, verdict, Deductions, Joint, PoolFault, Refusal, REFUSAL,
+    join, numbers_in_pool, verdict, Deductions, Joint, PoolFault, Refusal, REFUSAL,
 };
 use checker_tests::tables::{Body, Kind, Reason, LONGEST_SUBMISSION};
-
-const PAINT: u8 = 0xAA;
 
 /// What join answers on a page of this length, and the page's first bytes: those that it has to write, or
 /// none where it refuses. All the others are as before.
 fn found(first: &[u8], second: &[u8], page: usize) -> (u32, Vec<u8>) {
-    let mut page = vec![PAINT; page];
-    let answer = join(first, second, &mut page);
-    let kept = page.split_off(answer.map_or(0, usize::from));
-    assert!(kept.iter().all(|&byte| byte == PAINT));
-    (code(answer), page)
+    called(page, usize::from, |page| join(first, second, page))
 }
 
 /// The pool on a page that is long enough.

@@ -4,9 +4,8 @@ use checker_tests::bodies::Bodies;
 use checker_tests::examples;
 use checker_tests::generate::Source;
 use checker_tests::notation::assemble;
-use checker_tests::reference::{
-    code, derivation_and_claim, program, read_back, run, verdict, REFUSAL,
-};
+use checker_tests::page::called;
+use checker_tests::reference::{derivation_and_claim, program, read_back, run, verdict, REFUSAL};
 use checker_tests::tables::{Rule, LONGEST_READ_BACK};
 
 /// Registers r0 to r2 hold n, its encryption under g and a public key; r3 holds the guess g.
@@ -37,8 +36,6 @@ const PUBLIC: u8 = 2;
 const GUESS: u8 = 3;
 const FIRST: u8 = 4;
 
-const PAINT: u8 = 0xAA;
-
 fn submission() -> Vec<u8> {
     assemble(SUBMISSION).unwrap()
 }
@@ -56,11 +53,7 @@ fn sent(instructions: &[(Rule, u8, u8)], test: (u8, u8, u8)) -> Vec<u8> {
 /// What reading back answers on a page of this length, and the page's first bytes: those that it has to
 /// write, or none where it refuses. All the others are as before.
 fn written(submission: &[u8], program: &[u8], page: usize) -> (u32, Vec<u8>) {
-    let mut page = vec![PAINT; page];
-    let answer = read_back(submission, program, &mut page);
-    let kept = page.split_off(answer.map_or(0, usize::from));
-    assert!(kept.iter().all(|&byte| byte == PAINT));
-    (code(answer), page)
+    called(page, usize::from, |page| read_back(submission, program, page))
 }
 
 /// What reading back writes, or its refusal as one number.

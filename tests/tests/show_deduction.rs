@@ -6,22 +6,15 @@ use checker_tests::examples::{self, submission};
 use checker_tests::generate::shapes::{self, Nesting, Order, Secrets};
 use checker_tests::generate::{deepest, Source};
 use checker_tests::notation::assemble;
-use checker_tests::reference::{
-    check, code, deducible, deduction, records, Deductions, Fault, REFUSAL,
-};
+use checker_tests::page::{called, PAINT};
+use checker_tests::reference::{check, deducible, deduction, records, Deductions, Fault, REFUSAL};
 use checker_tests::tables::{Body, Kind, Rule, Way, LONGEST_PROGRAM, SHORTEST_SHEET};
-
-const PAINT: u8 = 0xAA;
 
 /// What deduction answers on a page of this length, and the bytes that it has to write: none where it
 /// says no or refuses. All the others are as before.
 fn found(submission: &[u8], term: u8, page: usize) -> (u32, Vec<u8>) {
-    let mut page = vec![PAINT; page];
-    let answer = deduction(submission, term, &mut page);
-    let steps = answer.map_or(0, |answer| usize::from(answer).saturating_sub(1));
-    let kept = page.split_off(Body::Derivation.record() * steps);
-    assert!(kept.iter().all(|&byte| byte == PAINT));
-    (code(answer), page)
+    let count = |answer| Body::Derivation.record() * usize::from(answer).saturating_sub(1);
+    called(page, count, |page| deduction(submission, term, page))
 }
 
 /// The steps to the term; none where it isn't deducible.
