@@ -1,6 +1,6 @@
 -- Check 20 and the page: a law for each return of `write_pool`.
-use mathlib.Core.Path.{◌≡◌, refl, sym, ap, ◌∙◌}
-use mathlib.Core.Bool.{Bool, true, false, or-true}
+use mathlib.Core.Path.{◌≡◌, sym, ap, ◌∙◌}
+use mathlib.Core.Bool.{true, false, or-true}
 use mathlib.Core.List.{List, ◌++◌}
 use Prim.Native.Nat.{ℕ}
 use native.Mathlib.Omega.{arith}
@@ -8,8 +8,8 @@ use lib.ListN.{length, replicate, length-replicate}
 use lib.Dec.{ltb}
 use Rattle.std.specs.Prelude.{Result, Ok, Err}
 use Rattle.base.specs.declared.refusal.Refusal.{Refusal}
-use Rattle.base.proofs.AnswerLaws.{fails_not_passes, if_passes}
-use Rattle.base.specs.{Answer.refused, Answer.number_of, Answer.answer_of, Code.check_of, Computed.fails, Computed.fails_if}
+use Rattle.pool.proofs.MostLaws.{most_passed, most_failed}
+use Rattle.base.specs.{Answer.refused, Answer.number_of, Answer.answer_of, Code.check_of}
 use Rattle.submission.specs.{Record.most, Record.terms, Record.entries, Body.Bodies, Body.bodies, Body.records, Body.body_at, Body.bodies_of, Code.SubmissionRead, Code.TableRead}
 use Rattle.form.specs.{Computed.write_answer, Calls.FormWritten}
 use Rattle.pool.specs.declared.numbers.Numbers.{Numbers}
@@ -39,18 +39,6 @@ module _ (a b page : List ℕ) where
   refused_written r e f = record { answer = f ∙ sym e; bytes = rw e }
 
 -- ---- check 20, of the terms and of the entries
--- it refused
-module _ (i n : ℕ) {T : Type 0} {r : Result T Refusal} (e : check_of r ≡ check_most i n) where
-  most_passed : {v : T} → r ≡ Ok v → ltb (most i) n ≡ false
-  most_passed f = (if_passes _ 20 0).0 (sym e ∙ ap check_of f)
-
-  most_failed : {x : Refusal} → r ≡ Err x → (ltb (most i) n ≡ true) × (number_of x.fault ≡ 20) × (x.place ≡ 0)
-  most_failed {x} f = go (ltb (most i) n) refl (sym (ap check_of f) ∙ e)
-    where
-      go : (t : Bool) → ltb (most i) n ≡ t → fails (number_of x.fault) x.place ≡ fails_if t 20 0 → (ltb (most i) n ≡ true) × (number_of x.fault ≡ 20) × (x.place ≡ 0)
-      go true g h = (g, cc, cc)
-      go false g h = fails_not_passes h
-
 module _ {a b : List ℕ} (y : SubmissionRead a) (z : SubmissionRead b) where
   -- the two tests of check 20
   terms_tested : ltb (most 0) (records (pool a b) 0) ≡ ltb (most 0) (terms_to a b (terms b))

@@ -14,7 +14,7 @@ use Rattle.std.specs.List.{list_any}
 use Rattle.base.specs.declared.refusal.Refusal.{Refusal}
 use Rattle.base.specs.declared.writer.Writer.{Writer}
 use Rattle.base.specs.{Words.byte, Words.grow, Code.Wrote, Code.check_of, Computed.fails_if}
-use Rattle.base.proofs.{AnswerLaws.fails_not_passes, AnswerLaws.if_passes, Order.lt_or_ge, Says.Says, Says.says_eqb, Says.says_or, Says.same_test, Says.denies, PutLaws.puts_length, PutLaws.wrote_none, PutLaws.wrote_then}
+use Rattle.base.proofs.{Says.Says, Says.says_eqb, Says.says_or, Says.same_test, PutLaws.puts_length, PutLaws.wrote_none, PutLaws.wrote_then}
 use Rattle.submission.specs.{Record.terms, Record.entries, Record.entry_at, Body.body_at, Code.TableRead}
 use Rattle.submission.proofs.Theory.{ListedTerms.facts}
 use Rattle.form.proofs.Theory.RoundTrip.{body_byte}
@@ -22,7 +22,7 @@ use Rattle.pool.specs.declared.numbers.Numbers.{Numbers}
 use Rattle.pool.specs.Pool.{pool_number, is_entry, new_entries}
 use Rattle.pool.specs.Code.{entries_to, check_most, Noted}
 use Rattle.pool.proofs.Theory.{PoolLists.kept_more, PoolLists.kept_rises, PoolKnowledge.says_entry}
-use Rattle.pool.proofs.{TermReturns.above_most, PutLaws.table_length}
+use Rattle.pool.proofs.{MostLaws.most_passed, MostLaws.room_left, MostLaws.full_refused, PutLaws.table_length}
 
 -- ---- whether a number is among the first's entries
 says_member : (n : ℕ) (l : List ℕ) → Says (list_any (λ y. eqb y n) l) ((k : ℕ) × (k < length l) × (byte l k ≡ n))
@@ -97,20 +97,14 @@ module _ (a b : List ℕ) (r : ℕ) {u v : Writer} (at : u.at ≡ entries a) (ro
 
     pub new_put : {T : Type 0} {q : Result T Refusal} {o : T} {x : Writer} → t ≡ false → check_of q ≡ fails_if (eqb v.at 64) 20 0 → q ≡ Ok o → Wrote v (k ∷ []) x → (entries_to a b (r + 1) ≤ 64) × Wrote u (new_entries a b (r + 1)) x
     new_put g j i y =
-        let d = (denies _ (says_eqb v.at 64)).0 ((if_passes _ 20 0).0 (sym j ∙ ap check_of i)) in
         let h = entry_new a b r (entry_is false g) in
-        let m : v.at < 64 = ⊎_elim (λ l. l) (λ l. absurd (d (omega (arith, place_counts)))) (lt_or_ge v.at 64) in
+        let m : v.at < 64 = room_left 1 v.at j i (omega (arith, place_counts)) in
         (omega (arith, one_entry_more a b r (entry_is false g), place_counts), rw (h, ← e) (wrote_then w y))
 
     pub new_refused : {T : Type 0} {q : Result T Refusal} {y : Refusal} → t ≡ false → check_of q ≡ fails_if (eqb v.at 64) 20 0 → q ≡ Err y → r < entries b → check_of q ≡ check_most 1 (entries_to a b (entries b))
-    new_refused {q = q} g h i l = go (eqb v.at 64) refl h
-      where
-        go : (s : Bool) → eqb v.at 64 ≡ s → check_of q ≡ fails_if s 20 0 → check_of q ≡ check_most 1 (entries_to a b (entries b))
-        go true j o =
-            let m = entries_kept a b (r + 1) (entries b) (omega arith) in
-            let n : v.at ≡ 64 = (says_eqb v.at 64).0 j in
-            o ∙ above_most 1 (entries_to a b (entries b)) (omega (arith, one_entry_more a b r (entry_is false g), place_counts))
-        go false j o = fails_not_passes (sym (ap check_of i) ∙ o)
+    new_refused g h i l =
+        let m = entries_kept a b (r + 1) (entries b) (omega arith) in
+        full_refused 1 v.at h i (omega (arith, one_entry_more a b r (entry_is false g), place_counts))
 
 -- ---- the buffer of the entries: what stands in it before the new ones, and that there is room for all
 module _ {a : List ℕ} (z : TableRead a) where
@@ -120,5 +114,5 @@ module _ {a : List ℕ} (z : TableRead a) where
 
   pub entries_room : (b : List ℕ) (n : ℕ) {T : Type 0} {r : Result T Refusal} {v : T} → check_of r ≡ check_most 1 (entries_to a b n) → r ≡ Ok v → length (body_at a 1 ++ new_entries a b n) ≤ 64
   entries_room b n e f =
-      let l = ltb-false 64 (entries_to a b n) ((if_passes _ 20 0).0 (sym e ∙ ap check_of f)) in
+      let l = ltb-false 64 (entries_to a b n) (most_passed 1 (entries_to a b n) e f) in
       omega (arith, length-append (body_at a 1) (new_entries a b n), own_entries z)

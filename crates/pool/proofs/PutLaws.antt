@@ -1,35 +1,23 @@
 -- What the loops put: the records of the missing terms, and the entries that are new.
-use mathlib.Core.Path.{◌≡◌, refl, sym, ap, ◌∙◌}
+use mathlib.Core.Path.{◌≡◌, refl, ap, ◌∙◌}
 use mathlib.Core.Bool.{Bool, true, false, cond}
 use mathlib.Core.List.{List, [], ◌∷◌, ◌++◌, append-nil}
 use Prim.Native.Nat.{ℕ, ◌+◌, ◌*◌, ◌≤◌, ◌<◌}
 use native.Mathlib.Numerals.{add-one}
 use native.Mathlib.Omega.{arith}
-use lib.Dec.{ltb}
 use lib.ListN.{length, take, length-append}
-use Rattle.std.specs.Prelude.{Result, Err}
 use Rattle.std.specs.List.{flat_map}
 use Rattle.std.proofs.lemmas.Grind.{flat_map-append}
-use Rattle.base.specs.declared.refusal.Refusal.{Refusal}
 use Rattle.base.specs.declared.writer.Writer.{Writer}
-use Rattle.base.specs.{Code.Wrote, Code.check_of, Computed.fails_if}
-use Rattle.base.proofs.{RefusalLaws.passes_iff, AnswerLaws.fails_not_passes, Says.says_ltb, PutLaws.wrote_none, PutLaws.wrote_then, PutLaws.wrote_out, PutLaws.puts_whole}
-use Rattle.submission.specs.{Record.most, Record.count, Record.width, Body.body_at, Code.TableRead}
+use Rattle.base.specs.{Code.Wrote}
+use Rattle.base.proofs.{RefusalLaws.passes_iff, PutLaws.wrote_none, PutLaws.wrote_then, PutLaws.wrote_out, PutLaws.puts_whole}
+use Rattle.submission.specs.{Record.count, Record.width, Body.body_at, Code.TableRead}
 use Rattle.submission.proofs.Theory.ReadingRows.{tells_1_to_4}
 use Rattle.form.proofs.Theory.RoundTrip.{body_length}
 use Rattle.pool.specs.declared.numbers.Numbers.{Numbers}
 use Rattle.pool.specs.Pool.{is_missing, missing, renumbered}
-use Rattle.pool.specs.Code.{missing_records, check_most, Noted}
-use Rattle.pool.proofs.TermReturns.{above_most}
+use Rattle.pool.specs.Code.{missing_records, Noted}
 use Rattle.pool.proofs.Theory.{PoolBodies.renumbered_length, PoolLists.threes_length, PoolNumbers.missing_none, PoolNumbers.missing_more}
-
--- where n are too many, so are more
-pub most_reached : {T : Type 0} {r : Result T Refusal} {x : Refusal} (i : ℕ) {n m : ℕ} → check_of r ≡ check_most i n → r ≡ Err x → n ≤ m → check_of r ≡ check_most i m
-most_reached {r = r} i {n} {m} e f l = go (ltb (most i) n) refl e
-  where
-    go : (t : Bool) → ltb (most i) n ≡ t → check_of r ≡ fails_if t 20 0 → check_of r ≡ check_most i m
-    go true g h = h ∙ above_most i m (let k : most i < n = (says_ltb (most i) n).0 g in omega arith)
-    go false g h = fails_not_passes (sym (ap check_of f) ∙ h)
 
 -- ---- the records
 pub records_none : (a b : List ℕ) {w : Writer} → Wrote w (missing_records a b 0) w

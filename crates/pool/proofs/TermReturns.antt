@@ -1,36 +1,30 @@
 -- One of the second's terms more: its number is noted, and its record is put where the first lacks it.
 use mathlib.Core.Path.{◌≡◌, refl, sym, ap, ap₂, ◌∙◌, subst}
 use mathlib.Core.Logic.{⊎_elim}
-use mathlib.Core.Bool.{Bool, true, false, cond}
+use mathlib.Core.Bool.{cond}
 use mathlib.Core.List.{List, [], ◌∷◌}
 use mathlib.Core.Option.{some}
-use Prim.Native.Nat.{ℕ, ◌+◌, ◌≤◌, ◌<◌}
+use Prim.Native.Nat.{ℕ, ◌+◌, ◌<◌}
 use native.Mathlib.Numerals.{add-one}
 use native.Mathlib.Omega.{arith}
-use lib.Dec.{eqb, ltb}
+use lib.Dec.{eqb}
 use lib.ListN.{length, get_or, set, length-set}
 use lib.Seq.{get_or-set_same, get_or-set_other}
-use borrow.Author.{Count.below_more, Tests.le-ltb, Tests.lt-ltb, Tests.eqb-true}
+use borrow.Author.{Count.below_more}
 use Rattle.std.specs.Prelude.{Option, Some, None, Result, Ok, Err}
 use Rattle.base.specs.declared.refusal.Refusal.{Refusal}
 use Rattle.base.specs.declared.writer.Writer.{Writer}
-use Rattle.base.specs.{Code.Wrote, Code.check_of, Computed.passes, Computed.fails, Computed.fails_if}
-use Rattle.base.proofs.{AnswerLaws.fails_not_passes, AnswerLaws.if_passes, Order.lt_or_ge, Says.denies, Says.says_eqb, PutLaws.wrote_none}
+use Rattle.base.specs.{Code.Wrote, Code.check_of, Computed.passes, Computed.fails_if}
+use Rattle.base.proofs.{PutLaws.wrote_none}
 use Rattle.term.specs.{Term.Second, Term.absent, Term.anything, Term.key_for, Term.second, Term.unary, Term.Shape, Term.atomic, Term.compound, Number.shape_of}
 use Rattle.submission.specs.declared.Term.{Term}
-use Rattle.submission.specs.{Record.most, Record.terms, Record.kind_at, Record.x_at, Record.y_at, Check.HasSecond, Check.Shaped, Code.IsTerm, Code.RecordFound, Code.TableRead}
+use Rattle.submission.specs.{Record.terms, Record.kind_at, Record.x_at, Record.y_at, Check.HasSecond, Check.Shaped, Code.IsTerm, Code.RecordFound, Code.TableRead}
 use Rattle.submission.proofs.Theory.{ListedTerms.facts}
 use Rattle.pool.specs.declared.numbers.Numbers.{Numbers}
 use Rattle.pool.specs.Pool.{is_missing, pool_number, operands, renumbered}
 use Rattle.pool.specs.Code.{terms_to, check_most, Noted}
+use Rattle.pool.proofs.MostLaws.{within_most, room_left, full_refused}
 use Rattle.pool.proofs.Theory.PoolNumbers.{InFirst, Missing, in_or_missing, rank_missing, rank_present, same_row, same_term}
-
--- ---- check 20: no more than the most, and one more than these
-pub within_most : (i n : ℕ) → n ≤ most i → passes ≡ check_most i n
-within_most i n l = let e : ltb (most i) n ≡ false = le-ltb (most i) n l in rw e
-
-pub above_most : (i n : ℕ) → most i < n → fails 20 0 ≡ check_most i n
-above_most i n l = let e : ltb (most i) n ≡ true = lt-ltb (most i) n l in rw e
 
 -- ---- one term more
 module _ {a b : List ℕ} {j : ℕ} {numbers : Numbers} {t u : Term} (z : TableRead a) (y : TableRead b) (l : j < terms b) (p : Noted a b j numbers) (q : IsTerm b j t) (k : u.kind ≡ t.kind)
@@ -106,20 +100,14 @@ module _ {a b : List ℕ} {j : ℕ} {numbers : Numbers} (y : TableRead b) (l : j
 
     module _ {r : Result Unit Refusal} (h : check_of r ≡ fails_if (eqb numbers.next 250) 20 0) where
       pub missing_refused : {x : Refusal} → r ≡ Err x → check_of r ≡ check_most 0 (terms_to a b (j + 1))
-      missing_refused {x} e = go (eqb numbers.next 250) refl h
-        where
-          go : (t : Bool) → eqb numbers.next 250 ≡ t → check_of r ≡ fails_if t 20 0 → check_of r ≡ check_most 0 (terms_to a b (j + 1))
-          go true f g = g ∙ above_most 0 (terms_to a b (j + 1)) (omega (arith, one_more, eqb-true numbers.next 250 f))
-          go false f g = fails_not_passes (sym (ap check_of e) ∙ g)
+      missing_refused e = full_refused 0 numbers.next h e (omega (arith, one_more))
 
       module _ {v : Unit} (e : r ≡ Ok v) where
-        room_left : numbers.next < 250
-        room_left =
-            let d = (denies _ (says_eqb numbers.next 250)).0 ((if_passes _ 20 0).0 (sym h ∙ ap check_of e)) in
-            ⊎_elim (λ m. m) (λ m. absurd (d (omega (arith, p.few)))) (lt_or_ge numbers.next 250)
+        next_below : numbers.next < 250
+        next_below = room_left 0 numbers.next h e p.few
 
         pub missing_answer : passes ≡ check_most 0 (terms_to a b (j + 1))
-        missing_answer = within_most 0 (terms_to a b (j + 1)) (omega (arith, one_more, room_left))
+        missing_answer = within_most 0 (terms_to a b (j + 1)) (omega (arith, one_more, next_below))
 
         pub missing_numbers : {m : Numbers} → m.of ≡ set numbers.of j numbers.next → m.next ≡ numbers.next + 1 → Noted a b (j + 1) m
         missing_numbers f g = record {
@@ -127,5 +115,5 @@ module _ {a b : List ℕ} {j : ℕ} {numbers : Numbers} (y : TableRead b) (l : j
           long = ap length f ∙ length-set numbers.of j numbers.next ∙ p.long;
           is = λ k c. ap (λ (s : List ℕ). get_or s k 0) f ∙ noted refl (i.is ∙ sym p.next) k c;
           next = g ∙ sym one_more;
-          few = omega (arith, room_left);
+          few = omega (arith, next_below);
         }

@@ -32,8 +32,8 @@ module _ {a b : List ℕ} (h : Joinable a b) (whole : WellFormed a) where
   abbrev p : List ℕ
   p = joined a b
 
-  whole_pool : IsPool a b p
-  whole_pool = is_pool h
+  as_pooled : IsPool a b p
+  as_pooled = is_pool h
 
   claim : Claimed a
   claim = claim_facts h.first
@@ -44,7 +44,7 @@ module _ {a b : List ℕ} (h : Joinable a b) (whole : WellFormed a) where
 
   same_derivation : body_at p 2 ≡ body_at a 2
   unfolding pool
-  same_derivation = ap (λ (d : Bodies). d.derivation) whole_pool.reads.bodies
+  same_derivation = ap (λ (d : Bodies). d.derivation) as_pooled.reads.bodies
 
   module _ (i : ℕ) (l : i < steps a) where
     same_rule : rule_at p i ≡ rule_at a i
@@ -76,10 +76,10 @@ module _ {a b : List ℕ} (h : Joinable a b) (whole : WellFormed a) where
 
   -- ---- their terms
   first_term : (n : ℕ) → n < terms a → term p n ≡ term a n
-  first_term n l = (whole_pool.first_number n l).1
+  first_term n l = (as_pooled.first_number n l).1
 
   more_known : (t : Term) → InKnowledge a t → InKnowledge p t
-  more_known t k = (whole_pool.knowledge_of_both t).1 (inl k)
+  more_known t k = (as_pooled.knowledge_of_both t).1 (inl k)
 
   guess_term : term p (guess p) ≡ term a (guess a)
   guess_term = ap (term p) (guess_same h) ∙ first_term (guess a) claim.guess_below
@@ -106,10 +106,10 @@ module _ {a b : List ℕ} (h : Joinable a b) (whole : WellFormed a) where
     premise_iff x = (⊎_elim (λ e. inl (e ∙ first_is)) (λ e. inr (e ∙ second_is)), ⊎_elim (λ e. inl (e ∙ sym first_is)) (λ e. inr (e ∙ sym second_is)))
 
     step_fits : StepFits p i
-    step_fits = rw (same_rule i l, same_p i l, same_q i l, same_conclusion i l) (fits_over whole_pool.first_number _ _ _ _ right)
+    step_fits = rw (same_rule i l, same_p i l, same_q i l, same_conclusion i l) (fits_over as_pooled.first_number _ _ _ _ right)
 
-  pool_whole : WellFormed p
-  pool_whole = record { read = whole_pool.passes; shaped = λ i l. step_fits i (omega (arith, same_steps)) }
+  pool_well_formed : WellFormed p
+  pool_well_formed = record { read = as_pooled.passes; shaped = λ i l. step_fits i (omega (arith, same_steps)) }
 
   known_over : (i : ℕ) → i ≤ steps a → (x : Term) → Known a i x → Known p i x
   known_over i l x (inl k) = inl (more_known x k)
@@ -179,7 +179,7 @@ module _ {a b : List ℕ} (h : Joinable a b) (whole : WellFormed a) where
   module _ (five : FiveConditions a) (room n : ℕ) (count : n ≡ steps a) (enough : program_length n ≤ room) where
     accepted_by : ClaimMet p (claims p) → check_answer p room ≡ done n
     accepted_by m =
-        (accepted_iff p (pool_bytes h) room n).1 (count ∙ sym same_steps, pool_whole, record { founded = founded_over five.founded; met = m }, omega (arith, same_steps))
+        (accepted_iff p (pool_bytes h) room n).1 (count ∙ sym same_steps, pool_well_formed, record { founded = founded_over five.founded; met = m }, omega (arith, same_steps))
 
     derived_stays : (t : Target) → claims a ≡ derived t → check_answer p room ≡ done n
     derived_stays t k =
@@ -206,15 +206,15 @@ module _ {a b : List ℕ} (h : Joinable a b) (whole : WellFormed a) where
           let row : Refuses (later verifier) 8 (verifying a) =
           inl (first_of (refl, (sym same_verifying, λ x m. r x ((premises_iff k x).0 m))) (λ m q (f, (g, w)) l. omega (arith, same_verifying)) (λ m (f, w). omega arith)) in
           (check_exact p (pool_bytes h) room (refused 8 (verifying a))).1
-          (after_refuses (rows1to7 p) (later (claims p)) 8 (verifying a) ((begun_iff p (pool_bytes h)).1 (pool_whole, founded_over five.founded))
+          (after_refuses (rows1to7 p) (later (claims p)) 8 (verifying a) ((begun_iff p (pool_bytes h)).1 (pool_well_formed, founded_over five.founded))
           (subst (λ c. Refuses (later c) 8 (verifying a)) (sym (same_claims ∙ k)) row))
 
     done_or_reachable : (c : Claims) → claims a ≡ c → (check_answer p room ≡ done n) ⊎ (check_answer p room ≡ refused 8 (verifying a))
     done_or_reachable verifier k =
-        let c = claimed_clear p (pool_bytes h) whole_pool.passes in
+        let c = claimed_clear p (pool_bytes h) as_pooled.passes in
         ⊎_elim
-        (λ e. inr (reached_refused k (λ x m. (says_reachable c pool_whole.shaped (same_claims ∙ k)).0 e x ((premises_iff k x).1 m))))
-        (λ e. inl (hidden_done k ((reachable_iff c pool_whole.shaped (same_claims ∙ k)).0 e)))
+        (λ e. inr (reached_refused k (λ x m. (says_reachable c pool_well_formed.shaped (same_claims ∙ k)).0 e x ((premises_iff k x).1 m))))
+        (λ e. inl (hidden_done k ((reachable_iff c pool_well_formed.shaped (same_claims ∙ k)).0 e)))
         (true_or_false (reachable p))
     done_or_reachable (derived t) k = inl (derived_stays t k)
 

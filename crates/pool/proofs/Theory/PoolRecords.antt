@@ -7,12 +7,11 @@ use Prim.Native.Nat.{ℕ, ◌+◌, ◌*◌, ◌-◌, ◌<◌}
 use native.Mathlib.Omega.{arith}
 use lib.ListN.{length, get_or-append}
 use lib.Seq.{get_or-append-add}
-use Rattle.std.specs.List.{flat_map}
 use Rattle.base.specs.Words.{byte}
 use Rattle.base.proofs.Order.{lt_or_ge}
 use Rattle.submission.specs.{Record.start, Record.terms, Body.Bodies, Body.body_at}
 use Rattle.form.proofs.Theory.RoundTrip.{body_byte}
-use Rattle.pool.specs.Pool.{is_missing, missing, pool_number, renumbered, pool, joined}
+use Rattle.pool.specs.{Pool.is_missing, Pool.missing, Pool.pool_number, Pool.renumbered, Pool.pool, Pool.joined, Code.missing_records}
 use Rattle.pool.proofs.Theory.{JoinAnswer.Joinable, PoolLists.kept_place, PoolLists.kept_at, PoolLists.threes_at, PoolNumbers.rank, PoolNumbers.InFirst, PoolNumbers.Missing, PoolNumbers.in_or_missing, PoolNumbers.rank_less}
 use Rattle.pool.proofs.Theory.MappedRecord.{record_bytes}
 use Rattle.pool.proofs.Theory.PoolBodies.{own_length, renumbered_length, pool_reads, count_is}
@@ -45,20 +44,20 @@ module _ {a b : List ℕ} (h : Joinable a b) where
   abbrev p : List ℕ
   p = joined a b
 
-  abbrev renumbered_all : List ℕ
-  renumbered_all = flat_map (renumbered a b) (missing a b (terms b))
+  abbrev added : List ℕ
+  added = missing_records a b (terms b)
 
   pub term_count : terms p ≡ terms a + rank a b (terms b)
   term_count = count_is h 0 (omega arith)
 
-  term_byte : (i : ℕ) → i < 3 * terms p → byte p (start p 0 + i) ≡ byte (body_at a 0 ++ renumbered_all) i
+  term_byte : (i : ℕ) → i < 3 * terms p → byte p (start p 0 + i) ≡ byte (body_at a 0 ++ added) i
   unfolding pool
   term_byte i l = sym (body_byte p 0 i l) ∙ ap (λ (b : Bodies). byte b.terms i) (pool_reads h).bodies
 
   first_field : (n j : ℕ) → n < terms a → j < 3 → field p n j ≡ field a n j
   first_field n j l m =
       term_byte (3 * n + j) (omega (arith, term_count))
-      ∙ get_or-append (body_at a 0) renumbered_all 0 (3 * n + j) (omega (arith, own_length b h.first 0 (omega arith)))
+      ∙ get_or-append (body_at a 0) added 0 (3 * n + j) (omega (arith, own_length b h.first 0 (omega arith)))
       ∙ body_byte a 0 (3 * n + j) (omega arith)
 
   pub first_row : (n : ℕ) → n < terms a → record_bytes p n ≡ record_bytes a n
@@ -70,8 +69,8 @@ module _ {a b : List ℕ} (h : Joinable a b) where
     missing_field i m =
         let (s, t) = kept_place (is_missing a b) (λ j. j) (terms b) j l z.absent in
         let e : 3 * pool_number a b j + i ≡ length (body_at a 0) + (3 * rank a b j + i) = omega (arith, z.is, own_length b h.first 0 (omega arith)) in
-        term_byte (3 * pool_number a b j + i) (omega (arith, term_count, z.is, s)) ∙ ap (byte (body_at a 0 ++ renumbered_all)) e
-        ∙ get_or-append-add (body_at a 0) renumbered_all (3 * rank a b j + i) 0
+        term_byte (3 * pool_number a b j + i) (omega (arith, term_count, z.is, s)) ∙ ap (byte (body_at a 0 ++ added)) e
+        ∙ get_or-append-add (body_at a 0) added (3 * rank a b j + i) 0
         ∙ threes_at (renumbered a b) (renumbered_length a b) (missing a b (terms b)) (rank a b j) i s m
         ∙ ap (λ x. byte (renumbered a b x) i) t
 
